@@ -1,0 +1,134 @@
+// The types of the machine, of its steps and of their answers.
+//
+// Document 01's rules over these types are the definitions in specs/, a file a heading; the laws about them are in proofs/.
+// The one function here is proved, and the crate assumes nothing.
+ghost use mathlib.Core.Path.{_≡_};
+ghost use Rattle.rules.specs.Answer.{numberOf};
+
+// I; plain M, O, E, S; speculative S-M, S-O, S-E, S-S.
+pub enum State {
+    I,
+    M,
+    O,
+    E,
+    S,
+    SM,
+    SO,
+    SE,
+    SS,
+}
+
+// One slot: a state, an address, a modified VID m, a high VID h and a word.
+pub struct Line {
+    pub state: State,
+    pub address: u64,
+    pub m: u64,
+    pub h: u64,
+    pub word: u64,
+}
+
+pub struct Cache {
+    pub lines: [Line; 16],
+}
+
+// `count` of the four caches are in use; `lcvid` is the last committed VID.
+pub struct Machine {
+    pub caches: [Cache; 4],
+    pub count: usize,
+    pub lcvid: u64,
+    pub memory: [u64; 64],
+}
+
+// Where a line stands.
+pub struct Pos {
+    pub cache: usize,
+    pub slot: usize,
+}
+
+// What a search over all lines finds.
+pub enum Found {
+    At(Pos),
+    Nowhere,
+}
+
+// The lowest free slot of a cache.
+pub enum Room {
+    Slot(usize),
+    Full,
+}
+
+// The six steps. `at` is an address, `data` the word to store.
+pub enum Op {
+    Load {
+        cache: usize,
+        vid: u64,
+        at: u64,
+    },
+    Store {
+        cache: usize,
+        vid: u64,
+        at: u64,
+        data: u64,
+    },
+    Commit {
+        vid: u64,
+    },
+    Abort,
+    Reset,
+    Evict {
+        cache: usize,
+        slot: usize,
+    },
+}
+
+// Why a call is refused, in the order of document 01's table: `number` gives the number there.
+pub enum Reason {
+    CacheCount,
+    NotSound,
+    NoSuchCache,
+    AddressTooLarge,
+    SlotTooLarge,
+    VidTooLarge,
+    VidPast,
+    VidNotNext,
+    NotSettled,
+    SlotEmpty,
+    NoRoom,
+    Unreadable,
+    NoFit,
+}
+
+pub enum Answer {
+    Value(u64),
+    Done,
+    Misspec,
+    Overflow,
+    Refused(Reason),
+}
+
+// A refusal carries its number and no value; the machine stands beside the answer.
+pub struct Answered {
+    pub answer: Answer,
+    pub machine: Machine,
+}
+
+// Document 01's number of a refusal, 1 to 13.
+pub fn number(reason: Reason) -> u64
+    ensures { λ r. ⌜ r ≡ numberOf reason ⌝ }
+{
+    match reason {
+        Reason::CacheCount => 1,
+        Reason::NotSound => 2,
+        Reason::NoSuchCache => 3,
+        Reason::AddressTooLarge => 4,
+        Reason::SlotTooLarge => 5,
+        Reason::VidTooLarge => 6,
+        Reason::VidPast => 7,
+        Reason::VidNotNext => 8,
+        Reason::NotSettled => 9,
+        Reason::SlotEmpty => 10,
+        Reason::NoRoom => 11,
+        Reason::Unreadable => 12,
+        Reason::NoFit => 13,
+    }
+}
