@@ -10,7 +10,7 @@ use Rattle.rules.specs.declared.Answer.{Answer}
 use Rattle.rules.specs.declared.Answer.the-variants.{Value, Done, Misspec, Overflow, Refused}
 use Rattle.rules.specs.Step.{actsWith}
 
--- `line` gives the line of an address; `Marked m x b`: a number b or a later one has read or written the line of x in this flight
+-- `line` gives the line of an address; `Marked m x b`: the machine still knows that number b, or a later one, read or wrote the line of x
 module _ (M : Type 0) (line : ℕ → ℕ) (lc : M → ℕ) (view : M → ℕ → ℕ → ℕ) (Marked : M → ℕ → ℕ → Type 0) where
   -- no number from the last committed one on sees another word
   abbrev pub SameView : M → M → Type 0

@@ -1,0 +1,6 @@
+pub mod Bools
+pub mod Tests
+pub mod Lists
+pub mod States
+pub mod Lines
+pub mod Words
