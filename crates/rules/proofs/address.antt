@@ -1,3 +1,10 @@
 pub mod Sound
 pub mod Owners
 pub mod Rebuild
+pub mod Gone
+pub mod Added
+pub mod Demote
+pub mod Alone
+pub mod Version
+pub mod Commit
+pub mod Abort

@@ -3,4 +3,5 @@ pub mod Tests
 pub mod Lists
 pub mod States
 pub mod Lines
+pub mod LineRules
 pub mod Words

@@ -1,2 +1,10 @@
 pub mod Places
 pub mod Sound
+pub mod HouseTest
+pub mod Chain
+pub mod HouseWords
+pub mod View
+pub mod Local
+pub mod Moves
+pub mod Frame
+pub mod Branches

@@ -60,6 +60,10 @@ dataAt μ Nowhere d = d
 unfoldable pub plainData : Machine → ℕ → Data
 plainData μ x = dataAt μ (find (λ p l. isPlain x l) μ) (memoryAt μ x)
 
+-- what number a sees at x: the owner's word, else that of the plain lines, else memory's
+unfoldable pub view : Machine → ℕ → ℕ → Data
+view μ x a = dataAt μ (find (λ p l. isOwner x a l) μ) (plainData μ x)
+
 -- ---- "Plain load, otherwise."
 
 -- "M elsewhere becomes O, E becomes S"

@@ -16,7 +16,7 @@ use Rattle.rules.specs.States.{isSM, isSO}
 use Rattle.rules.specs.Line.{line, empty, isOwner, isShare}
 use Rattle.rules.specs.Machine.{at, drop, put, find, gives, place, placeTwo}
 use Rattle.rules.specs.Abort.{abortOf}
-use Rattle.rules.specs.Load.{dataAt, plainData, isOf}
+use Rattle.rules.specs.Load.{plainData, view, isOf}
 
 -- "Owner S-O, or a < h in S-M or S-E: misspeculation." For a plain store a is LCVID: "Owner S-O, or S-M or S-E with h > LCVID: misspeculation."
 unfoldable pub misspeculates : ℕ → Line → Bool
@@ -32,11 +32,11 @@ closed a l = line SO (l .address) (l .m) a (l .word)
 
 -- "owner S-M with a = m: it and all S-S lines with that m drop, the asker places S-M (a, a)"
 unfoldable pub storeOver : Machine → ℕ → ℕ → ℕ → Data → Pos → Answered
-storeOver μ c a x d o = place μ Done c (version x a d) (drop (λ p l. isShare x (at μ o .m) l) (put o empty μ))
+storeOver μ c a x d o = place μ Done c (version x a d) (put o empty (drop (λ p l. isShare x (at μ o .m) l) μ))
 
 -- "owner with a > m: it becomes S-O (m, a) in its slot, S-S lines with that m drop, the asker places S-M (a, a) with the new word"
 unfoldable pub storeSplit : Machine → ℕ → ℕ → ℕ → Data → Pos → Answered
-storeSplit μ c a x d o = place μ Done c (version x a d) (drop (λ p l. isShare x (at μ o .m) l) (put o (closed a (at μ o)) μ))
+storeSplit μ c a x d o = place μ Done c (version x a d) (put o (closed a (at μ o)) (drop (λ p l. isShare x (at μ o .m) l) μ))
 
 -- "No speculative line live: all lines of the address drop; the asker places S-O (0, a) with the old word, then S-M (a, a)."
 unfoldable pub storeNew : Machine → ℕ → ℕ → ℕ → Data → Answered
@@ -64,4 +64,4 @@ storeOf μ vid c a x d = cond vid (storeBy μ c a x d (find (λ p l. isOwner x a
 
 -- the new version: what a load would see, with the word at place i replaced
 unfoldable pub newData : Machine → ℕ → ℕ → ℕ → ℕ → Data
-newData μ a x i w = putWord (dataAt μ (find (λ p l. isOwner x a l) μ) (plainData μ x)) i w
+newData μ a x i w = putWord (view μ x a) i w
