@@ -8,3 +8,7 @@ pub mod Local
 pub mod Moves
 pub mod Frame
 pub mod Branches
+pub mod Replace
+pub mod Read
+pub mod Shared
+pub mod LoadLaw

@@ -27,10 +27,10 @@ demote-ranged s = elim s [ I ↦ refl | M ↦ refl | O ↦ refl | E ↦ refl | S
 abbrev pub demoted : Line → Line
 demoted l = line (demote (l .state)) (l .address) (l .m) (l .h) (l .word)
 
-here-demoted : (lc x : ℕ) (l : Line) → Here lc x l → Here lc x (demoted l)
+pub here-demoted : (lc x : ℕ) (l : Line) → Here lc x l → Here lc x (demoted l)
 here-demoted lc x l h = record { alive = record { some = demote-I (l .state) ∙ h .alive .some; fresh = λ r. h .alive .fresh (sym (demote-ranged (l .state)) ∙ r) }; at = h .at }
 
-demoted-here : (lc x : ℕ) (l : Line) → Here lc x (demoted l) → Here lc x l
+pub demoted-here : (lc x : ℕ) (l : Line) → Here lc x (demoted l) → Here lc x l
 demoted-here lc x l h = record { alive = record { some = sym (demote-I (l .state)) ∙ h .alive .some; fresh = λ r. h .alive .fresh (demote-ranged (l .state) ∙ r) }; at = h .at }
 
 -- a plain line lives at r; the live lines of x are demoted

@@ -10,7 +10,7 @@ use Rattle.rules.specs.declared.State.{State}
 use Rattle.rules.specs.declared.Line.{Line}
 use Rattle.rules.specs.declared.Pos.{Pos}
 use Rattle.rules.specs.Data.{Data}
-use Rattle.rules.specs.States.{isO, isE, isS, isSO, isSE, isSS, plain, spec, ranged, top, owns, stands}
+use Rattle.rules.specs.States.{isI, isO, isE, isS, isSO, isSE, isSS, plain, spec, ranged, top, owns, stands}
 use Rattle.rules.proofs.base.Bools.{both, neg, not-both}
 use Rattle.rules.proofs.base.States.{state-rule, so-ranged, ss-ranged, owns-ranged}
 use Rattle.rules.proofs.base.Lines.{Here, Hits, pos-dec}
@@ -57,6 +57,18 @@ owned-like {k = k} {l = l} up i K L o = record {
   same-word = L .word ∙ o .same-word ∙ sym (K .word);
   reach = omega (arith, o .reach, L .more, K .end (ss-ranged (k .state) i));
   within = λ j. let t = was L isSO j in omega (arith, o .within t, L .end (so-ranged (l .state) t), K .end (ss-ranged (k .state) i));
+}
+
+-- a live line stays one
+pub like-here : {a lc x : ℕ} {k l : Line} → Like a k l → l .address ≡ x → Here lc x k → Here lc x l
+like-here L e h = record { alive = record { some = subst (λ (s : State). isI s ≡ false) (sym (L .state)) (h .alive .some); fresh = λ r. let i = was L ranged r in omega (arith, h .alive .fresh i, L .end i) }; at = e }
+
+-- an owner stays one
+pub owner-like : {a b lc x : ℕ} {f g : Pos → Line} {p : Pos} → Like a (f p) (g p) → Here lc x (g p) → OwnerAt f lc x b p → OwnerAt g lc x b p
+owner-like L h o = record {
+  here = h;
+  owning = still L owns (o .owning);
+  hit = record { is = still L spec (o .hit .is); from = omega (arith, o .hit .from, L .same-m); until = λ r. let i = was L ranged r in omega (arith, o .hit .until i, L .end i) };
 }
 
 -- ---- lines stay or go, and none that stays needs one that goes; LCVID and memory's word may change
@@ -118,9 +130,7 @@ pub record SameAt (a : ℕ) (f g : Pos → Line) (lc x : ℕ) : Type 0 where
 
 module _ {a : ℕ} {f g : Pos → Line} {lc x : ℕ} (same : SameAt a f g lc x) where
   sees-same : {w : Data} (b : ℕ) (v : Data) → Sees f lc x w b v → Sees g lc x w b v
-  sees-same b v (from-owner p o e) =
-      let (h, L) = same .there p (o .here) in
-      from-owner p (record { here = h; owning = still L owns (o .owning); hit = record { is = still L spec (o .hit .is); from = omega (arith, o .hit .from, L .same-m); until = λ r. let i = was L ranged r in omega (arith, o .hit .until i, L .end i) } }) (e ∙ sym (L .word))
+  sees-same b v (from-owner p o e) = let (h, L) = same .there p (o .here) in from-owner p (owner-like L h o) (e ∙ sym (L .word))
   sees-same b v (from-plain p h i e) = let (h′, L) = same .there p h in from-plain p h′ (still L plain i) (e ∙ sym (L .word))
   sees-same b v (from-memory n e) =
       from-memory (λ p h. let (i, L) = same .back p h in record { same = λ c. L .word ∙ n p i .same (was L plain c); later = λ o. omega (arith, n p i .later (was L owns o), L .same-m) }) e

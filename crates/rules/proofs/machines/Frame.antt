@@ -13,13 +13,13 @@ use Rattle.rules.specs.Data.{Data}
 use Rattle.rules.specs.Line.{empty}
 use Rattle.rules.specs.Machine.{at, change, drop, put, write, withLcvid}
 use Rattle.rules.proofs.base.Bools.{by-test}
-use Rattle.rules.proofs.base.Lists.{length-map}
 use Rattle.rules.proofs.machines.Places.{at-change, at-put-other, at-put-any}
+use Rattle.rules.proofs.machines.Moves.{put-width, change-width}
 use Rattle.rules.proofs.machines.Sound.{Frame}
 
 pub frame-put : (μ : Machine) (p : Pos) (l : Line) → p .cache < μ .count → l .address < 64 → Frame μ → Frame (put p l μ)
 frame-put μ p l c h f = record {
-  caches = unfold put in (length-set (μ .caches) (p .cache) _ ∙ f .caches);
+  caches = put-width μ p l ∙ f .caches;
   words = unfold put in f .words;
   some = unfold put in f .some;
   few = unfold put in f .few;
@@ -37,7 +37,7 @@ Tame k = (p : Pos) (l : Line) → (k p l ≡ empty) ⊎ (k p l .address ≡ l .a
 
 pub frame-change : (k : Pos → Line → Line) (μ : Machine) → ((p : Pos) → k p empty ≡ empty) → Tame k → Frame μ → Frame (change k μ)
 frame-change k μ e t f = record {
-  caches = unfold change in (length-map _ (μ .caches) ∙ f .caches);
+  caches = change-width k μ ∙ f .caches;
   words = unfold change in f .words;
   some = unfold change in f .some;
   few = unfold change in f .few;

@@ -123,8 +123,8 @@ module _ {N : ℕ} {μ ν : Machine} {x : ℕ} (s : Sound N μ) (L : Local μ ν
         go (inl m) = m
         go (inr l) = absurd (omega arith)
 
-  pub local-keeps : (a : ℕ) → KeepsAt (at μ) (at ν) (μ .lcvid) x a (memoryAt μ x) (memoryAt ν x) → Keeps N μ ν a x
-  local-keeps a K = record {
+  pub local-keeps : (a : ℕ) {u : Data} → memoryAt ν x ≡ u → KeepsAt (at μ) (at ν) (μ .lcvid) x a (memoryAt μ x) u → Keeps N μ ν a x
+  local-keeps a {u} mem K = record {
     sound = t;
     last = L .last;
     same = λ y b i. same y b i (ℕ-discrete y x);
@@ -133,10 +133,10 @@ module _ {N : ℕ} {μ ν : Machine} {x : ℕ} (s : Sound N μ) (L : Local μ ν
   }
     where
       t : Sound N ν
-      t = sound-local (K .sound)
+      t = sound-local (rw mem (K .sound))
 
       same : (y b : ℕ) → μ .lcvid ≤ b → Dec (y ≡ x) → view ν y b ≡ view μ y b
-      same y b i (yes e) = rw e (view-to t x b (view μ x b) i (K .sees b (view μ x b) i (view-sees s x b i)))
+      same y b i (yes e) = rw e (view-to t x b (view μ x b) i (rw mem (K .sees b (view μ x b) i (view-sees s x b i))))
       same y b i (no n) = view-other t y b n i
 
       keeps : (y b : ℕ) → μ .lcvid < b → Marked μ y b → Dec (y ≡ x) → Mark (at ν) (μ .lcvid) y b
