@@ -12,3 +12,6 @@ pub mod Replace
 pub mod Read
 pub mod Shared
 pub mod LoadLaw
+pub mod StoreLaw
+pub mod EvictLaw
+pub mod Settle

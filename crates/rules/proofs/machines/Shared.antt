@@ -41,6 +41,13 @@ stale-test : (c x m : ℕ) (p : Pos) (l : Line) → Decides (isStaleShare c x m 
 unfolding isStaleShare
 stale-test c x m p l = and-test (eq-test (p .cache) c) (share-test x m l)
 
+-- ---- S-S lines of x drop
+
+pub shares-dropped : {N : ℕ} {μ : Machine} → Sound N μ → (t : Pos → Line → Bool) (a x : ℕ) → ((p : Pos) (l : Line) → t p l ≡ true → (isSS (l .state) ≡ true) × (l .address ≡ x)) → Keeps N μ (drop t μ) a x
+shares-dropped {μ = μ} s t a x k =
+    local-keeps s (drop-local t μ x (λ p i. k p (at μ p) i .1)) (drop-fits t μ (s .fits)) a (drop-memory t μ x)
+    (keeps-shares-gone a (λ p. by-test (t p (at μ p)) (λ i. inr (k p (at μ p) i .0, drop-gone t μ p i)) (λ i. inl (drop-stays t μ p i))) (s .each x))
+
 -- ---- S-S (m, a + 1) placed beside the owner o, which is in another cache and has been read; the asker's S-S lines with that m drop first
 
 module _ {N : ℕ} {ρ : Machine} (s : Sound N ρ) (c a x e m : ℕ) (d : Data) (o : Pos) (O : OwnerAt (at ρ) (ρ .lcvid) x a o) (same-m : at ρ o .m ≡ m) (same-word : at ρ o .word ≡ d) (up : ρ .lcvid ≤ a) (small : a < N)
@@ -58,8 +65,7 @@ module _ {N : ℕ} {ρ : Machine} (s : Sound N ρ) (c a x e m : ℕ) (d : Data) 
   width = rw (drop-width stale ρ) in-range
 
   gone : Keeps N ρ δ a x
-  gone = local-keeps s (drop-local stale ρ x (λ p i. stale-test c x m p (at ρ p) .says i .1 .1 .0)) (drop-fits stale ρ (s .fits)) a (drop-memory stale ρ x)
-      (keeps-shares-gone a (λ p. by-test (stale p (at ρ p)) (λ i. inr (stale-test c x m p (at ρ p) .says i .1 .0, drop-gone stale ρ p i)) (λ i. inl (drop-stays stale ρ p i))) (s .each x))
+  gone = shares-dropped s stale a x (λ p k i. let t = stale-test c x m p k .says i in (t .1 .0, t .1 .1 .0))
 
   same-o : at δ o ≡ at ρ o
   same-o = drop-stays stale ρ o (by-test (stale o (at ρ o)) (λ i. owns-not-ss (at ρ o .state) (O .owning) (stale-test c x m o (at ρ o) .says i .1 .0)) (λ i. i))

@@ -1,24 +1,22 @@
 -- What number a sees at x on a sound machine: `view` finds it, and it is one. Exactly one owner, where a speculative line lives.
 -- Assumes nothing.
 use mathlib.Core.Path.{_≡_, refl, sym, _∙_}
-use mathlib.Core.Logic.{_⊎_, inl, inr}
 use mathlib.Core.Bool.{true, false}
 use Prim.Native.Nat.{ℕ, _≤_}
 use native.Mathlib.Omega.{arith}
-use Rattle.rules.specs.declared.Line.{Line}
 use Rattle.rules.specs.declared.Machine.{Machine}
 use Rattle.rules.specs.declared.Pos.{Pos}
 use Rattle.rules.specs.declared.Found.{Found}
 use Rattle.rules.specs.declared.Found.the-variants.{At, Nowhere}
 use Rattle.rules.specs.Data.{Data}
-use Rattle.rules.specs.States.{plain, spec, top, owns}
+use Rattle.rules.specs.States.{spec, top}
 use Rattle.rules.specs.Line.{empty, isOwner, isPlain}
 use Rattle.rules.specs.Machine.{at, memoryAt, find}
 use Rattle.rules.specs.House.{One}
 use Rattle.rules.specs.Load.{dataAt, plainData, view}
-use Rattle.rules.proofs.base.Bools.{not-both, by-test}
-use Rattle.rules.proofs.base.States.{owns-spec, top-spec, top-not-ranged}
-use Rattle.rules.proofs.base.Lines.{Here, Owner, owner-test, owner-here, plain-test, plain-here}
+use Rattle.rules.proofs.base.Bools.{not-both}
+use Rattle.rules.proofs.base.States.{owns-spec, top-spec}
+use Rattle.rules.proofs.base.Lines.{Here, top-hits, owner-test, owner-here, plain-test, plain-here}
 use Rattle.rules.proofs.address.Sound.{OwnerAt, Passes, Sees, from-owner, from-plain, from-memory, Mark}
 use Rattle.rules.proofs.address.Owners.{owner-once, owner-there, above, sees-one}
 use Rattle.rules.proofs.machines.Places.{find-some, find-none}
@@ -104,3 +102,7 @@ module _ {N : ℕ} {μ : Machine} (s : Sound N μ) (x a : ℕ) (up : μ .lcvid �
       go (from-owner p o e) = absurd (quiet p (o .here) (owns-spec (at μ p .state) (o .owning)))
       go (from-plain p h j e) = from-plain p h j e
       go (from-memory n e) = from-memory (λ p h. record { same = n p h .same; later = λ o. absurd (quiet p h (owns-spec (at μ p .state) o)) }) e
+
+-- the owner is S-M or S-E: every number above a
+pub top-flat : {N : ℕ} {μ : Machine} → Sound N μ → (x a : ℕ) → μ .lcvid ≤ a → (o : Pos) → OwnerAt (at μ) (μ .lcvid) x a o → top (at μ o .state) ≡ true → (b : ℕ) → a ≤ b → view μ x b ≡ view μ x a
+top-flat {μ = μ} s x a up o O t b i = sym (owner-view s x b (omega arith) o (record { here = O .here; owning = O .owning; hit = top-hits b (at μ o) t (omega (arith, O .hit .from)) })) ∙ owner-view s x a up o O
