@@ -6,7 +6,6 @@ pub mod HouseWords
 pub mod View
 pub mod Local
 pub mod Moves
-pub mod Frame
 pub mod Branches
 pub mod Replace
 pub mod Read
@@ -15,3 +14,7 @@ pub mod LoadLaw
 pub mod StoreLaw
 pub mod EvictLaw
 pub mod Settle
+pub mod Frame
+pub mod StepLaw
+pub mod Fresh
+pub mod House

@@ -125,7 +125,7 @@ pub record Serial (n : ℕ) (mem : ℕ → ℕ) (g : Standing) : Type 0 where
   pub returned : Returned mem (inOrder n (g .past ++ g .now ∷ []))
 
 -- "Start from a fresh machine and take any list of steps", for 1 to 4 caches and every memory of 64 words
-pub Demand3 : Type 0
+unfoldable pub Demand3 : Type 0
 Demand3 =
     (n : ℕ) (words : List Data) → 1 ≤ n → n ≤ 4 → length words ≡ 64 → (ops : List Op)
     → Serial 64 (λ at. read (getD words (lineOf at) noData) (wordOf at)) (standing none (events (λ μ op. stepOf μ op .answer) (λ μ op. stepOf μ op .machine) (fresh n words) ops))

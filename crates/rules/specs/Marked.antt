@@ -30,5 +30,5 @@ abbrev pub markedAnswers : List Answer
 markedAnswers = Done ∷ Value 10 ∷ Value 0 ∷ Done ∷ Value 10 ∷ Done ∷ Value 20 ∷ Misspec ∷ Value 10 ∷ Refused VidNotNext ∷ []
 
 -- from a fresh machine of two caches with zero memory
-pub Marked : Type 0
+unfoldable pub Marked : Type 0
 Marked = map (λ e. e .answer) (events (λ μ op. stepOf μ op .answer) (λ μ op. stepOf μ op .machine) (fresh 2 (replicate 64 0)) markedSteps) ≡ markedAnswers

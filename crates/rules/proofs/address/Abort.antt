@@ -1,23 +1,23 @@
 -- Abort: what LCVID's owner becomes is alone, and every number then sees what LCVID saw. Reset leaves the same lines, under LCVID 0.
 -- Assumes nothing.
-use mathlib.Core.Path.{_≡_, refl, sym, _∙_}
+use mathlib.Core.Path.{_≡_, refl, _∙_}
 use mathlib.Core.Logic.{_⊎_, inl, inr}
 use mathlib.Core.Bool.{Bool, true, false, _&&_, _||_}
-use Prim.Native.Nat.{ℕ, _≤_}
+use Prim.Native.Nat.{ℕ}
 use native.Mathlib.Omega.{arith}
 use Rattle.rules.specs.declared.State.{State}
 use Rattle.rules.specs.declared.Line.{Line}
 use Rattle.rules.specs.declared.Pos.{Pos}
 use Rattle.rules.specs.Data.{Data}
-use Rattle.rules.specs.States.{isI, isE, isS, isSO, isSE, isSS, plain, spec, ranged, top, owns}
+use Rattle.rules.specs.States.{isI, isE, isSE, plain, spec, ranged, top, owns}
 use Rattle.rules.specs.Line.{empty, hits}
 use Rattle.rules.specs.Abort.{settle, settled, abortLine}
-use Rattle.rules.proofs.base.Bools.{both, left, right, neg, not-both, by-test}
+use Rattle.rules.proofs.base.Bools.{both, left, right, not-both, by-test}
 use Rattle.rules.proofs.base.States.{state-rule, state-not, state-never, owns-spec, top-spec, plain-or-spec}
-use Rattle.rules.proofs.base.Lines.{Here, Hits, hits-test, not-here, whole-here}
-use Rattle.rules.proofs.address.Sound.{There, Meets, SoundAt, GoodAt, OwnerAt, Passes, Sees, from-owner, from-plain, from-memory, Mark}
+use Rattle.rules.proofs.base.Lines.{Here, hits-test, not-here, whole-here}
+use Rattle.rules.proofs.address.Sound.{SoundAt, GoodAt, OwnerAt, Passes, Sees, from-owner, from-plain, from-memory, Mark}
 use Rattle.rules.proofs.address.Owners.{owner-once, plain-alone}
-use Rattle.rules.proofs.address.Rebuild.{like-same, Needed, the-O, the-newest, the-next, the-owner, Kept, sound-kept, clean, Lone, sound-lone}
+use Rattle.rules.proofs.address.Rebuild.{like-same, Kept, sound-kept, clean, sound-lone}
 
 module _ {N : ℕ} {f g : Pos → Line} {lc x : ℕ} {w : Data} (s : GoodAt N f lc x w) (is : (p : Pos) → g p ≡ abortLine lc (f p)) where
   -- a line that is left was plain, or LCVID's owner

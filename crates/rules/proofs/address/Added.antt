@@ -1,22 +1,21 @@
 -- A line comes to an address, at a place n that held no live line of it: the S-S of a load that another cache owns, the S of a plain load that other caches
 -- share, the E of a plain load from memory. Nothing that is seen changes.
 -- Assumes nothing.
-use mathlib.Core.Path.{_≡_, refl, sym, _∙_}
+use mathlib.Core.Path.{_≡_, refl, sym}
 use mathlib.Core.Logic.{_≢_, _⊎_, inl, inr}
-use mathlib.Core.Bool.{Bool, true, false, _&&_, _||_, not, false≢true}
+use mathlib.Core.Bool.{true, false, _&&_, _||_, not, false≢true}
 use Prim.Native.Nat.{ℕ, suc, _≤_, max}
 use native.Mathlib.Omega.{arith}
-use Rattle.rules.specs.declared.State.{State}
 use Rattle.rules.specs.declared.State.the-variants.{E, S, SS}
 use Rattle.rules.specs.declared.Line.{Line}
 use Rattle.rules.specs.declared.Pos.{Pos}
 use Rattle.rules.specs.Data.{Data}
-use Rattle.rules.specs.States.{isO, isS, isSO, isSS, plain, spec, top, owns, stands}
+use Rattle.rules.specs.States.{isO, isS, isSO, isSS, plain, spec, top, stands}
 use Rattle.rules.specs.Line.{line}
 use Rattle.rules.proofs.base.Bools.{both, neg, not-both, by-test}
-use Rattle.rules.proofs.base.States.{state-rule, state-not, owns-spec, owns-cases, so-ranged, stands-spec}
-use Rattle.rules.proofs.base.Lines.{Here, pos-dec, whole-here}
-use Rattle.rules.proofs.address.Sound.{Stand, There, IsO, Top, Low, From, OwnedBy, Meets, SoundAt, GoodAt, OwnerAt, Passes, Sees, from-owner, from-plain, from-memory, Mark, KeepsAt}
+use Rattle.rules.proofs.base.States.{state-rule, owns-spec, owns-cases, so-ranged, stands-spec}
+use Rattle.rules.proofs.base.Lines.{Here, pos-dec}
+use Rattle.rules.proofs.address.Sound.{Stand, There, IsO, Top, Low, From, OwnedBy, Meets, SoundAt, GoodAt, OwnerAt, Passes, Sees, from-owner, from-plain, from-memory, KeepsAt}
 use Rattle.rules.proofs.address.Owners.{plain-same}
 use Rattle.rules.proofs.address.Rebuild.{pairs-with}
 

@@ -1,6 +1,6 @@
 -- All lines of an address drop and one is placed: the S-M or S-E of the first load with a VID, and the M of a plain store.
 -- Assumes nothing.
-use mathlib.Core.Path.{_≡_, refl, sym, _∙_}
+use mathlib.Core.Path.{_≡_, refl}
 use mathlib.Core.Logic.{_⊎_, inl, inr}
 use mathlib.Core.Bool.{true, _&&_, not}
 use Prim.Native.Nat.{ℕ, _≤_, _<_}
@@ -12,7 +12,7 @@ use Rattle.rules.specs.States.{plain, spec, ranged, top}
 use Rattle.rules.proofs.base.Bools.{both, neg}
 use Rattle.rules.proofs.base.States.{state-rule, state-never, plain-or-spec, top-owns}
 use Rattle.rules.proofs.base.Lines.{Here, top-hits}
-use Rattle.rules.proofs.address.Sound.{OwnerAt, Sees, from-owner, from-plain, Mark, KeepsAt, WritesAt}
+use Rattle.rules.proofs.address.Sound.{Sees, from-owner, from-plain, Mark, KeepsAt, WritesAt}
 use Rattle.rules.proofs.address.Rebuild.{Lone, sound-lone}
 
 module _ {g : Pos → Line} {lc x : ℕ} {w : Data} (n : Pos) (only : (q : Pos) → Here lc x (g q) → q ≡ n) (h : Here lc x (g n)) (l : Lone lc w (g n)) where

@@ -1,7 +1,6 @@
 -- Commit: LCVID goes up by one and nothing else changes. Numbers from the new LCVID on see what they saw.
 -- Assumes nothing.
 use mathlib.Core.Path.{_≡_, refl}
-use mathlib.Core.Logic.{_⊎_}
 use mathlib.Core.Bool.{true}
 use Prim.Native.Nat.{ℕ, suc, _≤_, _<_}
 use native.Mathlib.Omega.{arith}
@@ -9,11 +8,11 @@ use native.Mathlib.Decide.{decLt}
 use Rattle.rules.specs.declared.Line.{Line}
 use Rattle.rules.specs.declared.Pos.{Pos}
 use Rattle.rules.specs.Data.{Data}
-use Rattle.rules.specs.States.{isO, isSO, plain, ranged, top, owns}
+use Rattle.rules.specs.States.{isO, isSO, ranged, owns}
 use Rattle.rules.proofs.base.Bools.{not-both, by-test}
 use Rattle.rules.proofs.base.States.{state-never, so-ranged, ss-ranged, owns-ranged, top-not-ranged, plain-not-ranged}
 use Rattle.rules.proofs.base.Lines.{Here}
-use Rattle.rules.proofs.address.Sound.{There, Low, From, GoodAt, SoundAt, OwnerAt, Sees, from-owner, from-plain, from-memory, Mark}
+use Rattle.rules.proofs.address.Sound.{There, Low, From, GoodAt, SoundAt, Sees, from-owner, from-plain, from-memory, Mark}
 use Rattle.rules.proofs.address.Rebuild.{like-same, Needed, the-O, the-newest, the-next, the-owner, Kept, sound-kept}
 
 module _ {N : ℕ} {f : Pos → Line} {lc x : ℕ} {w : Data} (s : GoodAt N f lc x w) where

@@ -2,20 +2,22 @@
 -- Assumes nothing.
 use mathlib.Core.Path.{_≡_, refl, sym, _∙_}
 use mathlib.Core.Logic.{_≢_, _⊎_, inl, inr}
-use mathlib.Core.Bool.{Bool, true, _&&_, _||_, not}
-use Prim.Native.Nat.{ℕ, _≤_}
+use mathlib.Core.Bool.{true, _&&_, _||_, not}
+use Prim.Native.Nat.{ℕ}
+use lib.Dec.{eqb}
+use borrow.Author.Tests.{eq-eqb, ne-eqb}
 use Rattle.rules.specs.declared.State.{State}
 use Rattle.rules.specs.declared.State.the-variants.{I, M, O, E, S, SM, SO, SE, SS}
 use Rattle.rules.specs.declared.Line.{Line}
 use Rattle.rules.specs.declared.Pos.{Pos}
 use Rattle.rules.specs.Data.{Data}
 use Rattle.rules.specs.States.{isI, isO, isE, isS, isSO, isSE, isSS, plain, spec, ranged, top, owns, stands}
-use Rattle.rules.specs.Line.{line}
-use Rattle.rules.specs.Load.{demote}
+use Rattle.rules.specs.Line.{line, empty}
+use Rattle.rules.specs.Load.{demote, demoteLine}
 use Rattle.rules.proofs.base.Bools.{both, by-test}
 use Rattle.rules.proofs.base.States.{state-rule, state-never, states-rule, owns-spec, top-spec}
 use Rattle.rules.proofs.base.Lines.{Here}
-use Rattle.rules.proofs.address.Sound.{Stand, There, IsO, Meets, SoundAt, GoodAt, OwnerAt, Sees, from-owner, from-plain, from-memory, KeepsAt}
+use Rattle.rules.proofs.address.Sound.{Stand, There, IsO, Meets, GoodAt, Sees, from-owner, from-plain, from-memory, KeepsAt}
 use Rattle.rules.proofs.address.Owners.{plain-all, plain-alone}
 
 demote-I : (s : State) → isI (demote s) ≡ isI s
@@ -26,6 +28,20 @@ demote-ranged s = elim s [ I ↦ refl | M ↦ refl | O ↦ refl | E ↦ refl | S
 
 abbrev pub demoted : Line → Line
 demoted l = line (demote (l .state)) (l .address) (l .m) (l .h) (l .word)
+
+-- lines of x are demoted, others stay
+module _ (x : ℕ) where
+  pub demote-empty : demoteLine x empty ≡ empty
+  unfolding demoteLine
+  demote-empty = by-test (eqb 0 x) (λ i. rw i) (λ i. rw i)
+
+  pub demote-of : (l : Line) → l .address ≡ x → demoteLine x l ≡ demoted l
+  unfolding demoteLine
+  demote-of l i = rw (eq-eqb (l .address) x i)
+
+  pub demote-other : (l : Line) → l .address ≢ x → demoteLine x l ≡ l
+  unfolding demoteLine
+  demote-other l n = rw (ne-eqb (l .address) x n)
 
 pub here-demoted : (lc x : ℕ) (l : Line) → Here lc x l → Here lc x (demoted l)
 here-demoted lc x l h = record { alive = record { some = demote-I (l .state) ∙ h .alive .some; fresh = λ r. h .alive .fresh (sym (demote-ranged (l .state)) ∙ r) }; at = h .at }

@@ -4,7 +4,7 @@
 use mathlib.Core.Path.{_≡_, refl, sym, _∙_}
 use mathlib.Core.Logic.{_≢_, _⊎_, inl, inr}
 use mathlib.Core.Bool.{Bool, true, false, _&&_, _||_, not}
-use Prim.Native.Nat.{ℕ, _≤_, _<_}
+use Prim.Native.Nat.{ℕ, _≤_}
 use native.Mathlib.Omega.{arith}
 use Rattle.rules.specs.declared.State.{State}
 use Rattle.rules.specs.declared.Line.{Line}
@@ -13,11 +13,11 @@ use Rattle.rules.specs.Data.{Data}
 use Rattle.rules.specs.States.{isO, isE, isS, isSO, isSE, isSS, plain, spec, ranged, top, owns, stands, dirty}
 use Rattle.rules.specs.Line.{empty}
 use Rattle.rules.proofs.base.Bools.{both, neg, not-both, by-test}
-use Rattle.rules.proofs.base.States.{state-rule, state-not, state-never, states-rule, owns-spec, top-owns, top-spec, so-ranged, top-not-ranged, beside-top}
-use Rattle.rules.proofs.base.Lines.{Here, Hits, pos-dec, not-here, top-hits}
-use Rattle.rules.proofs.address.Sound.{There, IsO, Top, Low, From, OwnedBy, Meets, SoundAt, GoodAt, OwnerAt, Passes, Sees, from-owner, from-plain, from-memory, Mark, KeepsAt}
-use Rattle.rules.proofs.address.Owners.{owner-once, plain-same, plain-all, plain-alone, so-below, newest-once, mark-on}
-use Rattle.rules.proofs.address.Rebuild.{like-same, Needed, the-O, the-newest, the-next, the-owner, Kept, sound-kept, sound-none}
+use Rattle.rules.proofs.base.States.{state-rule, state-not, state-never, states-rule, owns-spec, top-owns, top-spec, so-ranged, beside-top}
+use Rattle.rules.proofs.base.Lines.{Here, not-here}
+use Rattle.rules.proofs.address.Sound.{There, IsO, Meets, SoundAt, GoodAt, Passes, Sees, from-owner, from-plain, from-memory, KeepsAt}
+use Rattle.rules.proofs.address.Owners.{plain-same, plain-alone, so-below, newest-once, mark-on}
+use Rattle.rules.proofs.address.Rebuild.{like-same, Needed, the-O, the-newest, the-next, the-owner, sound-kept, sound-none}
 
 -- a line that another may need
 abbrev wanted : State → Bool

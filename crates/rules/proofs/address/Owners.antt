@@ -1,6 +1,6 @@
 -- The owner for a number: at most one; one for every number from LCVID up where a speculative line lives; and a number sees one word.
 -- Assumes nothing.
-use mathlib.Core.Path.{_≡_, refl, sym, _∙_, ap}
+use mathlib.Core.Path.{_≡_, sym, _∙_, ap}
 use mathlib.Core.Logic.{_≢_, _⊎_, inl, inr}
 use mathlib.Core.Bool.{true}
 use Prim.Native.Nat.{ℕ, zero, suc, _+_, _≤_, _<_}
@@ -12,7 +12,7 @@ use Rattle.rules.specs.Data.{Data}
 use Rattle.rules.specs.States.{isSO, plain, spec, top, owns, stands}
 use Rattle.rules.proofs.base.States.{owns-spec, owns-cases, top-owns, so-owns, so-ranged, top-not-ranged, plain-not-spec, stands-plain, stands-symmetric, top-once}
 use Rattle.rules.proofs.base.Lines.{Here, Hits, top-hits, pos-dec}
-use Rattle.rules.proofs.address.Sound.{Disjoint, Stand, There, Low, Top, GoodAt, OwnerAt, Passes, Sees, from-owner, from-plain, from-memory, Mark}
+use Rattle.rules.proofs.address.Sound.{Disjoint, Stand, GoodAt, OwnerAt, Sees, from-owner, from-plain, from-memory, Mark}
 
 -- ---- two lines
 

@@ -3,7 +3,7 @@
 use mathlib.Core.Path.{_≡_, refl, sym, _∙_, subst, subst₂}
 use mathlib.Core.Logic.{_≢_, _⊎_, inl, inr}
 use mathlib.Core.Bool.{Bool, true, false, _&&_, _||_, not}
-use Prim.Native.Nat.{ℕ, _≤_, _<_, max}
+use Prim.Native.Nat.{ℕ, _≤_, max}
 use native.Mathlib.Omega.{arith}
 use native.Mathlib.Decide.{decLe}
 use Rattle.rules.specs.declared.State.{State}
@@ -12,9 +12,9 @@ use Rattle.rules.specs.declared.Pos.{Pos}
 use Rattle.rules.specs.Data.{Data}
 use Rattle.rules.specs.States.{isI, isO, isE, isS, isSO, isSE, isSS, plain, spec, ranged, top, owns, stands}
 use Rattle.rules.proofs.base.Bools.{both, neg, not-both}
-use Rattle.rules.proofs.base.States.{state-rule, so-ranged, ss-ranged, owns-ranged}
-use Rattle.rules.proofs.base.Lines.{Here, Hits, pos-dec}
-use Rattle.rules.proofs.address.Sound.{Disjoint, Stand, OwnedBy, There, IsO, Top, Low, From, Meets, SoundAt, OwnerAt, Passes, Sees, from-owner, from-plain, from-memory, Mark, KeepsAt}
+use Rattle.rules.proofs.base.States.{state-rule, so-ranged, ss-ranged}
+use Rattle.rules.proofs.base.Lines.{Here, pos-dec}
+use Rattle.rules.proofs.address.Sound.{Disjoint, Stand, OwnedBy, There, IsO, Top, Low, From, Meets, SoundAt, OwnerAt, Sees, from-owner, from-plain, from-memory, Mark, KeepsAt}
 use Rattle.rules.proofs.address.Owners.{stand-swap}
 
 -- ---- l is k, but for an h of S-M or S-E that was raised to a

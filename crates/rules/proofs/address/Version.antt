@@ -3,19 +3,19 @@
 -- Assumes nothing.
 use mathlib.Core.Path.{_≡_, refl, sym, _∙_}
 use mathlib.Core.Logic.{_≢_, _⊎_, inl, inr}
-use mathlib.Core.Bool.{Bool, true, false, _&&_, _||_, not, false≢true}
+use mathlib.Core.Bool.{true, _||_, false≢true}
 use Prim.Native.Nat.{ℕ, _≤_, _<_}
 use native.Mathlib.Omega.{arith}
 use Rattle.rules.specs.declared.State.the-variants.{SM, SO}
 use Rattle.rules.specs.declared.Line.{Line}
 use Rattle.rules.specs.declared.Pos.{Pos}
 use Rattle.rules.specs.Data.{Data}
-use Rattle.rules.specs.States.{isE, isS, isSO, isSE, isSS, plain, spec, ranged, top, owns, stands}
+use Rattle.rules.specs.States.{isE, isS, isSO, isSE, isSS, ranged, top, owns, stands}
 use Rattle.rules.specs.Line.{line, empty}
 use Rattle.rules.specs.Store.{version, closed}
-use Rattle.rules.proofs.base.States.{state-rule, state-never, owns-spec, top-owns, top-spec, so-owns, so-ranged, owns-ranged, beside-top, top-not-ranged}
-use Rattle.rules.proofs.base.Lines.{Here, Hits, pos-dec, not-here, top-hits}
-use Rattle.rules.proofs.address.Sound.{Stand, There, Low, From, OwnedBy, Meets, SoundAt, GoodAt, OwnerAt, Passes, Sees, from-owner, from-plain, from-memory, Mark, WritesAt}
+use Rattle.rules.proofs.base.States.{state-rule, state-never, top-owns, top-spec, owns-ranged, beside-top, top-not-ranged}
+use Rattle.rules.proofs.base.Lines.{Here, pos-dec, not-here, top-hits}
+use Rattle.rules.proofs.address.Sound.{Stand, There, Low, From, OwnedBy, Meets, SoundAt, GoodAt, Passes, Sees, from-owner, from-plain, from-memory, Mark, WritesAt}
 use Rattle.rules.proofs.address.Owners.{stand-swap, plain-alone, so-below, mark-on}
 use Rattle.rules.proofs.address.Rebuild.{pairs-with}
 

@@ -6,7 +6,7 @@ use Prim.Native.Nat.{ℕ, _≤_, _<_}
 use native.Mathlib.Omega.{arith}
 use native.Mathlib.Decide.{ℕ-discrete}
 use lib.Dec.{ltb, leb, eqb}
-use borrow.Author.Tests.{ltb-true, lt-ltb, leb-true, leb-false, le-leb, lt-leb, eqb-true, eq-eqb, not-true}
+use borrow.Author.Tests.{ltb-true, lt-ltb, leb-true, leb-false, le-leb, lt-leb}
 use Rattle.rules.specs.declared.Line.{Line}
 use Rattle.rules.specs.declared.Pos.{Pos}
 use Rattle.rules.specs.States.{isI, isSS, plain, spec, ranged, top, owns}

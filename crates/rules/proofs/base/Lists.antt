@@ -1,7 +1,7 @@
 -- Lists by their places: what a change, a test of all and a search come to at each place.
 -- Assumes nothing.
 use mathlib.Core.Path.{_≡_, refl, sym, ap, subst}
-use mathlib.Core.Bool.{Bool, true, false, cond, _&&_, true≢false, false≢true}
+use mathlib.Core.Bool.{Bool, true, false, cond}
 use mathlib.Core.List.{List, [], _∷_}
 use Prim.Native.Nat.{ℕ, zero, suc, _<_, zero-le, suc-le-suc}
 use native.Mathlib.Nat.{le-of-suc-le-suc, not-suc-le-zero}
@@ -12,7 +12,7 @@ use Rattle.rules.specs.declared.Found.the-variants.{At, Nowhere}
 use Rattle.rules.specs.declared.Room.{Room}
 use Rattle.rules.specs.declared.Room.the-variants.{Slot, Full}
 use Rattle.rules.specs.Lists.{oneOn, orElse, mapAt, allAt, firstAt, firstFound}
-use Rattle.rules.proofs.base.Bools.{left, right, both, by-test, not-both}
+use Rattle.rules.proofs.base.Bools.{left, right, both}
 
 -- what a search among n elements found: it passes; or none passes
 abbrev FoundBy : (ℕ → Bool) → ℕ → Room → Type 0

@@ -13,44 +13,9 @@ use Rattle.rules.specs.declared.Op.the-variants.{Load, Store, Commit, Ab
 use Rattle.rules.specs.declared.Answer.{Answer}
 use Rattle.rules.specs.declared.Answer.the-variants.{Value, Done, Misspec, Overflow, Refused}
 use Rattle.rules.specs.Step.{actsWith}
-use Rattle.rules.specs.Flights.{
-  Access,
-  Standing,
-  none,
-  more,
-  struck,
-  loaded,
-  finished,
-  note,
-  standing,
-  events,
-  below,
-  inOrder,
-  Returned,
-  Every,
-  Serial,
-}
+use Rattle.rules.specs.Flights.{Access, Standing, none, more, struck, loaded, finished, note, standing, events, below, inOrder, Returned, Every, Serial}
 use Rattle.rules.proofs.history.Laws.{KeepsMarks, Loads, Stores, Commits, Aborts, Resets, Evicts, LawValue, LawDone, Law}
-use Rattle.rules.proofs.history.Memory.{
-  every-any,
-  every-of,
-  every-new,
-  every-upTo,
-  below-nil,
-  below-top,
-  below-struck,
-  below-new-above,
-  inOrder-new,
-  after,
-  after-append,
-  returned-append,
-  returned-below,
-  load-leaves,
-  other-leaves,
-  returned-new,
-  after-new,
-  after-new-store,
-}
+use Rattle.rules.proofs.history.Memory.{every-any, every-of, every-new, every-upTo, below-nil, below-top, below-struck, below-new-above, inOrder-new, after, after-append, returned-append, returned-below, load-leaves, other-leaves, returned-new, after-new, after-new-store}
 
 -- the machine after a list of steps
 module _ {M : Type 0} (next : M → Op → M) where

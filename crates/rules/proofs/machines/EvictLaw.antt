@@ -10,15 +10,14 @@ use Rattle.rules.specs.declared.Machine.{Machine}
 use Rattle.rules.specs.declared.Pos.{Pos}
 use Rattle.rules.specs.declared.Answer.the-variants.{Done, Overflow}
 use Rattle.rules.specs.declared.Answered.{Answered}
-use Rattle.rules.specs.Data.{Data}
-use Rattle.rules.specs.States.{isI, isE, isS, isSM, isSE, isSS, top, owns, dirty}
+use Rattle.rules.specs.States.{isI, isE, isS, isSM, isSE, isSS, top, dirty}
 use Rattle.rules.specs.Line.{empty, dead, live, isShare}
 use Rattle.rules.specs.Machine.{at, memoryAt, change, drop, put, write, gives}
 use Rattle.rules.specs.House.{LineRules}
 use Rattle.rules.specs.Abort.{abortOf}
 use Rattle.rules.specs.Evict.{spare, writeBack, withShares, evictOf}
 use Rattle.rules.proofs.base.Bools.{both, neg, not-both, by-test}
-use Rattle.rules.proofs.base.States.{state-rule, state-not, state-never}
+use Rattle.rules.proofs.base.States.{state-rule, state-never}
 use Rattle.rules.proofs.base.Lines.{Live, live-test, Here, share-test, pos-dec, not-here}
 use Rattle.rules.proofs.base.LineRules.{rules-empty}
 use Rattle.rules.proofs.address.Sound.{KeepsAt}
@@ -29,7 +28,7 @@ use Rattle.rules.proofs.machines.Sound.{Sound, good}
 use Rattle.rules.proofs.machines.Local.{off-at, off-empty, Local, local-trans, Keeps, local-keeps, keeps-keeps}
 use Rattle.rules.proofs.machines.Moves.{put-local, put-fits, put-memory, write-local, write-lines, write-memory}
 use Rattle.rules.proofs.machines.Shared.{shares-dropped}
-use Rattle.rules.proofs.machines.Branches.{EvictBranches, evict-cases}
+use Rattle.rules.proofs.machines.Branches.{evict-cases}
 
 -- what an eviction comes to
 pub data EvictOutcome (N : ℕ) (μ : Machine) (x : ℕ) : Answered → Type 0 where

@@ -1,10 +1,10 @@
 -- The lines of a machine by place: after a change, a drop and a put; what a search finds; tests of all lines and of some line.
 -- Assumes nothing.
-use mathlib.Core.Path.{_≡_, refl, sym, _∙_, ap, subst}
+use mathlib.Core.Path.{_≡_, refl, sym, _∙_, ap}
 use mathlib.Core.Logic.{_≢_, _⊎_, inl, inr}
 use mathlib.Core.Bool.{Bool, true, false, cond, not, true≢false, false≢true}
-use mathlib.Core.List.{List, [], _∷_}
-use Prim.Native.Nat.{ℕ, zero, suc, _<_}
+use mathlib.Core.List.{List}
+use Prim.Native.Nat.{ℕ, _<_}
 use native.Mathlib.Omega.{arith}
 use native.Mathlib.Decide.{decLt, ℕ-discrete}
 use lib.ListN.{length, getD, set, List·getD-eq-default}
@@ -19,7 +19,7 @@ use Rattle.rules.specs.declared.Found.the-variants.{At, Nowhere}
 use Rattle.rules.specs.declared.Room.{Room}
 use Rattle.rules.specs.declared.Room.the-variants.{Slot, Full}
 use Rattle.rules.specs.Line.{empty, live}
-use Rattle.rules.specs.Lists.{orElse, mapAt, allAt, firstAt, firstFound}
+use Rattle.rules.specs.Lists.{mapAt, allAt, firstAt}
 use Rattle.rules.specs.Machine.{pos, noCache, at, change, drop, put, inCache, find, isFound, anyLine, allLines, freeSlot}
 use Rattle.rules.proofs.base.Bools.{not-both, by-test}
 use Rattle.rules.proofs.base.Tests.{Decides}

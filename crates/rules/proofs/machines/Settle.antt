@@ -1,7 +1,6 @@
 -- Commit, abort and reset on a sound machine: sound again; what is seen; marks.
 -- Assumes nothing.
 use mathlib.Core.Path.{_≡_, refl, sym, _∙_, subst, subst₂, fun-ext}
-use mathlib.Core.Logic.{_⊎_, inl, inr}
 use mathlib.Core.Bool.{Bool, true, false, _&&_, not, false≢true}
 use Prim.Native.Nat.{ℕ, suc, _≤_, _<_}
 use native.Mathlib.Omega.{arith}
@@ -13,16 +12,16 @@ use Rattle.rules.specs.declared.Machine.{Machine}
 use Rattle.rules.specs.declared.Pos.{Pos}
 use Rattle.rules.specs.Data.{Data}
 use Rattle.rules.specs.States.{isI, isSO, isSS, plain, spec, ranged, top, owns}
-use Rattle.rules.specs.Line.{empty, hits}
-use Rattle.rules.specs.Machine.{at, memoryAt, change, anyLine, withLcvid}
+use Rattle.rules.specs.Line.{hits}
+use Rattle.rules.specs.Machine.{at, memoryAt, change, withLcvid}
 use Rattle.rules.specs.House.{LineRules}
 use Rattle.rules.specs.Abort.{settle, settled, abortLine, abortOf}
 use Rattle.rules.specs.Load.{view}
 use Rattle.rules.specs.Commit.{commitOf}
 use Rattle.rules.specs.Reset.{resetLine, resetOf, unsettled}
-use Rattle.rules.proofs.base.Bools.{both, left, right, neg, not-both, by-test}
+use Rattle.rules.proofs.base.Bools.{both, left, neg, not-both, by-test}
 use Rattle.rules.proofs.base.Tests.{is-test, lt-test, and-test}
-use Rattle.rules.proofs.base.States.{state-rule, state-not, so-ranged, so-owns, owns-spec, top-owns, top-spec, top-not-ranged}
+use Rattle.rules.proofs.base.States.{state-rule, state-not, so-ranged, so-owns, owns-spec, top-owns, top-spec}
 use Rattle.rules.proofs.base.Lines.{Hits, hits-test, top-hits, Here}
 use Rattle.rules.proofs.base.LineRules.{rules-empty, rules-plain}
 use Rattle.rules.proofs.address.Sound.{SoundAt, Sees}

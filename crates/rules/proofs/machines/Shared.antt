@@ -8,7 +8,7 @@ use native.Mathlib.Omega.{arith}
 use native.Mathlib.Decide.{ℕ-discrete}
 use lib.Dec.{eqb}
 use lib.ListN.{length}
-use borrow.Author.Tests.{eq-eqb, ne-eqb}
+use borrow.Author.Tests.{eq-eqb}
 use Rattle.rules.specs.declared.State.{State}
 use Rattle.rules.specs.declared.State.the-variants.{I, M, O, E, S, SM, SO, SE, SS}
 use Rattle.rules.specs.declared.Line.{Line}
@@ -31,7 +31,7 @@ use Rattle.rules.proofs.address.Owners.{plain-all}
 use Rattle.rules.proofs.address.Rebuild.{like-same, owner-like}
 use Rattle.rules.proofs.address.Gone.{keeps-shares-gone}
 use Rattle.rules.proofs.address.Added.{keeps-share, keeps-S}
-use Rattle.rules.proofs.address.Demote.{demoted, here-demoted, demoted-here, demoted-kind, keeps-demoted}
+use Rattle.rules.proofs.address.Demote.{demoted, demote-empty, demote-of, demote-other, here-demoted, demoted-here, demoted-kind, keeps-demoted}
 use Rattle.rules.proofs.machines.Places.{at-change, drop-gone, drop-stays}
 use Rattle.rules.proofs.machines.Sound.{Sound, good}
 use Rattle.rules.proofs.machines.Local.{Keeps, local-keeps, keeps-keeps}
@@ -98,15 +98,7 @@ module _ {N : ℕ} {μ : Machine} (s : Sound N μ) (c a x e : ℕ) (q : Pos) (in
   ε = change demoting μ
 
   demote-at : (p : Pos) → at ε p ≡ demoteLine x (at μ p)
-  demote-at = at-change demoting μ (λ p. unfold demoteLine in by-test (eqb 0 x) (λ i. rw i) (λ i. rw i))
-
-  demote-of : (l : Line) → l .address ≡ x → demoteLine x l ≡ demoted l
-  unfolding demoteLine
-  demote-of l i = rw (eq-eqb (l .address) x i)
-
-  demote-other : (l : Line) → l .address ≢ x → demoteLine x l ≡ l
-  unfolding demoteLine
-  demote-other l n = rw (ne-eqb (l .address) x n)
+  demote-at = at-change demoting μ (λ p. demote-empty x)
 
   pq : plain (at μ q .state) ≡ true
   pq = plain-test x (at μ q) .says is .0
@@ -115,14 +107,14 @@ module _ {N : ℕ} {μ : Machine} (s : Sound N μ) (c a x e : ℕ) (q : Pos) (in
   hq = plain-here (μ .lcvid) x (at μ q) pq (plain-test x (at μ q) .says is .1)
 
   demoted-at : (p : Pos) → at μ p .address ≡ x → at ε p ≡ demoted (at μ p)
-  demoted-at p i = demote-at p ∙ demote-of (at μ p) i
+  demoted-at p i = demote-at p ∙ demote-of x (at μ p) i
 
   was-of : (p : Pos) → Here (μ .lcvid) x (at ε p) → at μ p .address ≡ x
   was-of p h = go (ℕ-discrete (at μ p .address) x)
     where
       go : Dec (at μ p .address ≡ x) → at μ p .address ≡ x
       go (yes i) = i
-      go (no n) = rw (demote-at p ∙ demote-other (at μ p) n) at (h .at)
+      go (no n) = rw (demote-at p ∙ demote-other x (at μ p) n) at (h .at)
 
   ε-rules : (p : Pos) → LineRules N (at ε p)
   ε-rules p = go (ℕ-discrete (at μ p .address) x)
@@ -131,13 +123,13 @@ module _ {N : ℕ} {μ : Machine} (s : Sound N μ) (c a x e : ℕ) (q : Pos) (in
       same t = elim t [ I ↦ λ h. refl | M ↦ λ h. absurd (true≢false h) | O ↦ λ h. refl | E ↦ λ h. absurd (true≢false h) | S ↦ λ h. refl | SM ↦ λ h. refl | SO ↦ λ h. refl | SE ↦ λ h. refl | SS ↦ λ h. refl ]
 
       go : Dec (at μ p .address ≡ x) → LineRules N (at ε p)
-      go (no n) = rw (demote-at p ∙ demote-other (at μ p) n) (s .fits p)
+      go (no n) = rw (demote-at p ∙ demote-other x (at μ p) n) (s .fits p)
       go (yes i) = rw (demoted-at p i) (by-test (plain (at μ p .state))
           (λ j. let (k, l) = s .fits p .flat j in rules-plain N (demoted (at μ p)) (state-rule plain (λ t. plain (demote t)) refl (at μ p .state) j) k l)
           (λ j. rw (same (at μ p .state) j) (s .fits p)))
 
   fading : Keeps N μ ε a x
-  fading = local-keeps s (change-local demoting μ x (λ p. unfold demoteLine in by-test (eqb 0 x) (λ i. rw i) (λ i. rw i)) (λ p l n. demote-other l n) (λ p l i. rw (demote-of l i) i)) ε-rules a (change-memory demoting μ x)
+  fading = local-keeps s (change-local demoting μ x (λ p. demote-empty x) (λ p l n. demote-other x l n) (λ p l i. rw (demote-of x l i) i)) ε-rules a (change-memory demoting μ x)
       (keeps-demoted (good s x) q hq pq demoted-at was-of a)
 
   abbrev new-S : Line

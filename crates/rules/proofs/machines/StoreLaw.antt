@@ -2,10 +2,9 @@
 -- Assumes nothing.
 use mathlib.Core.Path.{_≡_, refl, sym, _∙_, ap, subst}
 use mathlib.Core.Logic.{_≢_, _⊎_, inl, inr}
-use mathlib.Core.Bool.{Bool, true, false, _&&_, _||_, not, false≢true}
+use mathlib.Core.Bool.{Bool, true, false, _&&_, not, false≢true}
 use Prim.Native.Nat.{ℕ, _≤_, _<_}
 use native.Mathlib.Omega.{arith}
-use native.Mathlib.Decide.{ℕ-discrete}
 use lib.Dec.{ltb, eqb}
 use lib.ListN.{length}
 use borrow.Author.Tests.{ltb-false, eq-eqb}
@@ -37,11 +36,11 @@ use Rattle.rules.proofs.address.Version.{writes-split, writes-over, wri
 use Rattle.rules.proofs.machines.Places.{drop-gone, drop-stays, at-put-same, at-put-other, some-within}
 use Rattle.rules.proofs.machines.Sound.{Sound, good}
 use Rattle.rules.proofs.machines.View.{Marked, Quiet, quiet-unmarked, owner-at, unowned, view-sees, plain-view, quiet-flat, top-flat}
-use Rattle.rules.proofs.machines.Local.{off-at, off-empty, Local, local-trans, Keeps, Writes, local-writes, keeps-writes}
-use Rattle.rules.proofs.machines.Moves.{put-local, put-fits, put-memory, put-width, placed-new, placed-free, placed-local, drop-fits, drop-memory, drop-width}
-use Rattle.rules.proofs.machines.Replace.{dropped-none, dropped-local, replaced-new, replaced-only, replaced-local, replaced-fits, replaced-memory}
+use Rattle.rules.proofs.machines.Local.{off-at, off-empty, local-trans, Keeps, Writes, local-writes, keeps-writes}
+use Rattle.rules.proofs.machines.Moves.{put-local, put-fits, put-memory, put-width, placed-new, placed-free, placed-local, drop-width}
+use Rattle.rules.proofs.machines.Replace.{replaced-new, replaced-only, replaced-local, replaced-fits, replaced-memory}
 use Rattle.rules.proofs.machines.Shared.{shares-dropped}
-use Rattle.rules.proofs.machines.Branches.{Unowned, bared, StoreBranches, store-cases}
+use Rattle.rules.proofs.machines.Branches.{Unowned, bared, store-cases}
 
 -- what a store comes to
 pub data StoreOutcome (N : ℕ) (μ : Machine) (a x : ℕ) (d : Data) : Answered → Type 0 where
