@@ -8,4 +8,5 @@ pub mod address
 pub mod history
 pub mod machines
 pub mod Theorems
+pub mod EasyToGetWrong
 pub mod MarkedCases

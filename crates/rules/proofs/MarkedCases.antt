@@ -14,7 +14,6 @@ use Rattle.rules.specs.Step.{checked, ruleOf, stepOf}
 use Rattle.rules.specs.Flights.{events}
 use Rattle.rules.specs.Marked.{Marked}
 
-
 pub marked : Marked
 unfolding Marked read putWord sameData dead live hits isOwner isPlain isShare mapAt allAt firstAt firstFound at memoryAt change drop put write withLcvid find anyLine allLines freeSlot place placeTwo fresh abortLine abortOf readBy afterRead isOwnShare isStaleShare loadOwned plainData view demoteLine isOf isDirty loadNew loadOf misspeculates storeOver storeSplit storeNew storeOwned storeM storeOf newData commitOf lineFits slotFits disjoint pairFits some ownsIt needsMet pairsFit isSound checked ruleOf stepOf events
 marked = refl

@@ -1,32 +1,36 @@
 -- What the project promises of the rules, in one place: each statement, and its proof in a line. The words are those of specs/.
 -- Assumes nothing.
-use mathlib.Core.Path.{_≡_, refl, sym, _∙_, ap}
-use mathlib.Core.Bool.{Bool, true, false, not}
+use mathlib.Core.Path.{_≡_, refl, _∙_, ap}
+use mathlib.Core.Logic.{_⊎_, inl, inr}
+use mathlib.Core.Bool.{true}
 use Prim.Native.Nat.{ℕ, _≤_}
 use lib.ListN.{getD}
 use Rattle.rules.specs.declared.Machine.{Machine}
 use Rattle.rules.specs.declared.Pos.{Pos}
 use Rattle.rules.specs.declared.Op.{Op}
-use Rattle.rules.specs.declared.Answer.{Answer}
+use Rattle.rules.specs.declared.Op.the-variants.{Load, Store}
 use Rattle.rules.specs.declared.Reason.{Reason}
-use Rattle.rules.specs.declared.Answer.the-variants.{Refused}
-use Rattle.rules.specs.declared.State.{State}
-use Rattle.rules.specs.declared.State.the-variants.{I}
+use Rattle.rules.specs.declared.Answer.the-variants.{Value, Refused}
+use Rattle.rules.specs.declared.Answered.{Answered}
+use Rattle.rules.specs.declared.Reason.the-variants.{NoRoom}
 use Rattle.rules.specs.Data.{Data, noData, read, lineOf, wordOf}
-use Rattle.rules.specs.States.{spec, stands}
+use Rattle.rules.specs.States.{spec}
 use Rattle.rules.specs.Line.{isOwner}
 use Rattle.rules.specs.Machine.{at, vids, fresh}
 use Rattle.rules.specs.House.{Sized, Lives, One, House}
 use Rattle.rules.specs.HouseTest.{isSound}
-use Rattle.rules.specs.Step.{refuse, ruleOf, stepOf}
+use Rattle.rules.specs.Step.{actsWith, hasVid, ruleOf, stepOf}
+use Rattle.rules.specs.Load.{loadOf}
+use Rattle.rules.specs.Store.{storeOf, newData}
 use Rattle.rules.specs.Flights.{Demand3}
 use Rattle.rules.proofs.base.Tests.{Decides}
-use Rattle.rules.proofs.base.Lines.{Here, here-test, live-test}
-use Rattle.rules.proofs.base.States.{stands-symmetric}
+use Rattle.rules.proofs.base.Lines.{live-test}
 use Rattle.rules.proofs.history.Agree.{serializable}
 use Rattle.rules.proofs.machines.Sound.{SoundMachine}
 use Rattle.rules.proofs.machines.View.{owner-one}
-use Rattle.rules.proofs.machines.StepLaw.{lastOf, wordView, wordMarked, LawOf, step-ok}
+use Rattle.rules.proofs.machines.StepLaw.{lastOf, wordView, wordMarked, LawOf, load-outcome, step-ok}
+use Rattle.rules.proofs.machines.LoadLaw.{LoadOutcome, returns, no-room}
+use Rattle.rules.proofs.machines.Admitted.{Admitted, passes-3, passes-4, passes-6, passes-7, admitted, step-unchanged}
 use Rattle.rules.proofs.machines.Fresh.{fresh-sound, fresh-view}
 use Rattle.rules.proofs.machines.House.{house-sound, sound-house, sound-sized, house-decides}
 
@@ -46,6 +50,29 @@ step-lawful μ z h op = step-ok (house-sound z h) op .law
 pub rule-is-step : (μ : Machine) → Sized μ → House μ → (op : Op) → stepOf μ op ≡ ruleOf μ op
 unfolding stepOf
 rule-is-step μ z h op = rw (house μ z .when h)
+
+-- so a load or store that no check refuses is its rule
+pub load-is-rule : (μ : Machine) → Sized μ → House μ → (c v at : ℕ) → Admitted μ c v at → stepOf μ (Load c v at) ≡ loadOf μ (hasVid v) c (actsWith (μ .lcvid) v) (lineOf at) (wordOf at)
+unfolding ruleOf
+load-is-rule μ z h c v at A = rule-is-step μ z h (Load c v at) ∙ admitted A _
+
+pub store-is-rule : (μ : Machine) → Sized μ → House μ → (c v at w : ℕ) → Admitted μ c v at
+    → stepOf μ (Store c v at w) ≡ storeOf μ (hasVid v) c (actsWith (μ .lcvid) v) (lineOf at) (newData μ (actsWith (μ .lcvid) v) (lineOf at) (wordOf at) w)
+unfolding ruleOf
+store-is-rule μ z h c v at w A = rule-is-step μ z h (Store c v at w) ∙ admitted A _
+
+-- a load that no check refuses returns what its number sees, or there is no room for the line that it would place
+pub load-returns : (μ : Machine) → Sized μ → House μ → (c v at : ℕ) → Admitted μ c v at
+    → (stepOf μ (Load c v at) .answer ≡ Value (wordView μ at (actsWith (μ .lcvid) v))) ⊎ (stepOf μ (Load c v at) .answer ≡ Refused NoRoom)
+load-returns μ z h c v at A = rw (load-is-rule μ z h c v at A) (go _ (load-outcome (house-sound z h) c v at (passes-3 A) (passes-4 A) (passes-6 A) (passes-7 A)))
+  where
+    go : (r : Answered) → LoadOutcome (vids μ) μ (actsWith (μ .lcvid) v) (lineOf at) (wordOf at) r → (r .answer ≡ Value (wordView μ at (actsWith (μ .lcvid) v))) ⊎ (r .answer ≡ Refused NoRoom)
+    go r (returns d ν e K m) = inl (ap (λ (d : Data). Value (read d (wordOf at))) e)
+    go r no-room = inr refl
+
+-- a refused step hands the machine back unchanged, whatever the machine
+pub refused-unchanged : (μ : Machine) (op : Op) (k : Reason) → stepOf μ op .answer ≡ Refused k → stepOf μ op .machine ≡ μ
+refused-unchanged μ op = step-unchanged μ op .same
 
 -- for every address and every number from LCVID up there is exactly one owner where a speculative line lives
 pub owner-exactly-one : (μ : Machine) → Sized μ → House μ → (x a : ℕ) → μ .lcvid ≤ a → (p : Pos) → Lives μ x spec p → One (λ o. isOwner x a (at μ o) ≡ true)

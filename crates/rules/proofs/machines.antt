@@ -18,3 +18,4 @@ pub mod Frame
 pub mod StepLaw
 pub mod Fresh
 pub mod House
+pub mod Admitted

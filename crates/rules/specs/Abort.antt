@@ -1,6 +1,6 @@
 -- "Abort, also done inside a step that misspeculates or overflows."
 -- Assumes nothing.
-use mathlib.Core.Bool.{Bool, cond, _&&_}
+use mathlib.Core.Bool.{cond, _&&_}
 use Prim.Native.Nat.{ℕ}
 use Rattle.rules.specs.declared.State.{State}
 use Rattle.rules.specs.declared.State.the-variants.{I, M, O, E, S, SM, SO, SE, SS}

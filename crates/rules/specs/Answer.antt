@@ -1,7 +1,5 @@
 -- Answers: the number of a refusal; the text, the number behind it and the value of an answer. Every promise uses these.
 -- Assumes nothing.
-use mathlib.Core.Path.{_≡_}
-use mathlib.Core.Bool.{Bool, true, false}
 use mathlib.Core.List.{List, [], _∷_}
 use Prim.Native.Nat.{ℕ}
 use Rattle.rules.specs.declared.Reason.{Reason}

@@ -2,7 +2,7 @@
 -- `house` says that the two are the same. Here they stand as what a line owes by itself, what any two live lines of an address owe each other,
 -- and what a live line needs beside it.
 -- Assumes nothing.
-use mathlib.Core.Bool.{Bool, true, false, _&&_, _||_, not}
+use mathlib.Core.Bool.{Bool, _&&_, _||_, not}
 use Prim.Native.Nat.{ℕ, suc, max}
 use lib.Dec.{ltb, leb, eqb}
 use Rattle.rules.specs.declared.Line.{Line}

@@ -107,14 +107,18 @@ module _ {N : ℕ} {f g : Pos → Line} {lc x : ℕ} {w : Data} {n : Pos} (s : G
     newest = λ i. m .newest (owns-spec (f o .state) (O .owning));
     lowest = λ i. m .lowest (owns-spec (f o .state) (O .owning));
     next = λ i. absurd (false≢true i);
-    owner = λ i. still-there A (OwnedBy lc n (line SS x (f o .m) (suc a) (f o .word))) (o, O .here, record {
-      owning = O .owning;
-      same-m = refl;
-      away = away;
-      same-word = refl;
-      reach = reach (owns-cases (f o .state) (O .owning));
-      within = λ i. O .hit .until (so-ranged (f o .state) i);
-    });
+    owner = λ i. still-there A (OwnedBy lc n (line SS x (f o .m) (suc a) (f o .word))) (
+      o,
+      O .here,
+      record {
+        owning = O .owning;
+        same-m = refl;
+        away = away;
+        same-word = refl;
+        reach = reach (owns-cases (f o .state) (O .owning));
+        within = λ i. O .hit .until (so-ranged (f o .state) i);
+      },
+    );
   })
     where
       m : Meets g lc x w o (f o)

@@ -157,8 +157,11 @@ module _ {μ : Machine} (s : SoundMachine (vids μ) μ) where
     up : μ .lcvid ≤ a
     up = by-test (hasVid v) (λ i. omega (arith, with-vid i)) (λ i. omega (arith, plainly i))
 
+    pub load-outcome : LoadOutcome (vids μ) μ a x (wordOf at) (loadOf μ (hasVid v) c a x (wordOf at))
+    load-outcome = load-law (s .lines) (hasVid v) c a x (wordOf at) in-range small-a with-vid plainly
+
     load-ok : StepOk μ (Load c v at) (loadOf μ (hasVid v) c a x (wordOf at))
-    load-ok = turn (loadOf μ (hasVid v) c a x (wordOf at)) (load-law (s .lines) (hasVid v) c a x (wordOf at) in-range small-a with-vid plainly) (load-framed framed c x asks low-x (hasVid v) a (wordOf at) .frame)
+    load-ok = turn (loadOf μ (hasVid v) c a x (wordOf at)) load-outcome (load-framed framed c x asks low-x (hasVid v) a (wordOf at) .frame)
       where
         turn : (r : Answered) → LoadOutcome (vids μ) μ a x (wordOf at) r → Frame (r .machine) → StepOk μ (Load c v at) r
         turn r (returns d ν e K m) f = record { sound = record { lines = K .sound; frame = f }; law = loads-word a at d small-a up e K m }
