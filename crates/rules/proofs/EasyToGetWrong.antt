@@ -24,8 +24,8 @@ use Rattle.rules.specs.Machine.{pos, at, memoryAt, vids, change, drop, p
 use Rattle.rules.specs.House.{Sized, House, Lives}
 use Rattle.rules.specs.Abort.{abortLine}
 use Rattle.rules.specs.Load.{isOf}
-use Rattle.rules.specs.Store.{misspeculates, storeOwned, storeBy, storeOf}
-use Rattle.rules.specs.Evict.{spare, writeBack, withShares, evictOf}
+use Rattle.rules.specs.Store.{misspeculates, bared, storeOwned, storeBy, storeOf}
+use Rattle.rules.specs.Evict.{spare, writeBack, withShares, settledOut, evictOf}
 use Rattle.rules.specs.Step.{actsWith, hasVid, ruleOf, stepOf}
 use Rattle.rules.proofs.base.Bools.{not-both, by-test}
 use Rattle.rules.proofs.base.States.{state-rule, state-not}
@@ -38,7 +38,7 @@ use Rattle.rules.proofs.machines.Moves.{write-memory}
 use Rattle.rules.proofs.machines.StepLaw.{lastOf, wordView, wordMarked, LawOf}
 use Rattle.rules.proofs.history.Laws.{Evicts}
 use Rattle.rules.proofs.address.Sound.{OwnerAt}
-use Rattle.rules.proofs.machines.Branches.{bared, store-cases}
+use Rattle.rules.proofs.machines.Branches.{store-cases}
 use Rattle.rules.proofs.machines.Admitted.{Admitted}
 use Rattle.rules.proofs.Theorems.{step-sound, step-lawful, rule-is-step, store-is-rule, load-returns}
 use Rattle.rules.proofs.machines.House.{house-sound}
@@ -87,7 +87,7 @@ module _ (x m : ℕ) where
 pub store-drops-shares : (μ : Machine) → Sized μ → House μ → (vid : Bool) (c a x : ℕ) (d : Data) → μ .lcvid ≤ a → (o : Pos) → isOwner x a (at μ o) ≡ true → storeOf μ vid c a x d .answer ≡ Done
     → (q : Pos) → isShare x (at μ o .m) (at (storeOf μ vid c a x d .machine) q) ≡ false
 store-drops-shares μ z h vid c a x d up o is = store-cases P μ vid c a x d (record {
-  misspec = λ p i n e. not-done Misspec (unfold isDone in refl) e;
+  misspec = λ p i e. not-done Misspec (unfold isDone in refl) e;
   over = λ v p i n j e s k. put-unshared x m _ _ _ (unfold isShare in refl) (put-unshared x m _ p empty (empty-unshared x m) (bare p i));
   split = λ v p i n j e s k. put-unshared x m _ _ _ (unfold isShare in refl) (put-unshared x m _ p _ (unfold isShare in refl) (bare p i));
   first = λ v n. absurd (not-both is (n o));
@@ -138,7 +138,7 @@ module _ (μ : Machine) (z : Sized μ) (h : House μ) (c t : ℕ) (in-use : c < 
   p = pos c t
 
   evicted : evictOf μ p ≡ gives Done (writeBack p μ (withShares μ p))
-  evicted = unfold evictOf dead in rw (state-not isSM ranged refl (at μ p .state) state, state-not isSM spare refl (at μ p .state) state, state-not isSM dirty refl (at μ p .state) state, state-rule isSM top refl (at μ p .state) state, le-leb (at μ p .h) (μ .lcvid) settled, state)
+  evicted = unfold evictOf settledOut dead in rw (state-not isSM ranged refl (at μ p .state) state, state-not isSM spare refl (at μ p .state) state, state-not isSM dirty refl (at μ p .state) state, state-rule isSM top refl (at μ p .state) state, le-leb (at μ p .h) (μ .lcvid) settled, state)
 
   step-evicts : stepOf μ (Evict c t) ≡ gives Done (writeBack p μ (withShares μ p))
   step-evicts = rule-is-step μ z h (Evict c t) ∙ unfold ruleOf in rw (lt-leb (μ .count) c in-use, le-ltb 15 t slot, state-not isSM isI refl (at μ p .state) state) evicted

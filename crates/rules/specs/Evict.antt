@@ -24,6 +24,10 @@ writeBack p μ ν = write (at μ p .address) (at μ p .word) ν
 unfoldable pub withShares : Machine → Pos → Machine
 withShares μ p = put p empty (drop (λ q l. isShare (at μ p .address) (at μ p .m) l) μ)
 
+-- "S-M writes its word to memory", S-E has none to write
+unfoldable pub settledOut : Machine → Pos → Machine
+settledOut μ p = cond (isSM (at μ p .state)) (writeBack p μ (withShares μ p)) (withShares μ p)
+
 -- "Dead, E, S, S-S: emptied. M, O: word to memory, emptied. S-M or S-E with h ≤ LCVID: S-M writes its word to memory; S-S lines with that m and
 -- address drop; emptied. Any other S-M, S-E or live S-O: overflow, the machine aborts and nothing more is done."
 unfoldable pub evictOf : Machine → Pos → Answered
@@ -31,5 +35,5 @@ evictOf μ p =
     cond (dead (μ .lcvid) (at μ p) || spare (at μ p .state)) (gives Done (put p empty μ))
     (cond (dirty (at μ p .state)) (gives Done (writeBack p μ (put p empty μ)))
     (cond (top (at μ p .state) && leb (at μ p .h) (μ .lcvid))
-    (gives Done (cond (isSM (at μ p .state)) (writeBack p μ (withShares μ p)) (withShares μ p)))
+    (gives Done (settledOut μ p))
     (gives Overflow (abortOf μ))))

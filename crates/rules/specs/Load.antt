@@ -41,11 +41,19 @@ isOwnShare c x a p l = eqb (p .cache) c && (isSS (l .state) && (eqb (l .address)
 unfoldable pub isStaleShare : ℕ → ℕ → ℕ → Pos → Line → Bool
 isStaleShare c x m p l = eqb (p .cache) c && isShare x m l
 
+-- "S-S (m, a + 1)", with the word of the owner's line l
+abbrev pub shareLine : ℕ → ℕ → Line → Line
+shareLine x a l = line SS x (l .m) (suc a) (l .word)
+
+-- the machine before it is placed: the owner read, the asker's own S-S lines with that m dropped
+abbrev pub withoutStale : Machine → Bool → ℕ → ℕ → ℕ → Pos → Machine
+withoutStale μ vid c a x o = drop (isStaleShare c x (at μ o .m)) (afterRead μ vid a o)
+
 -- the asker does not hold the owner: an S-S of its own that hits, "otherwise the word is the owner's, and the asker drops its own S-S lines with that m
 -- at that address and places S-S (m, a + 1)". "An S-S hit changes nothing."
 abbrev pub loadAway : Machine → Bool → ℕ → ℕ → ℕ → ℕ → Pos → Found → Answered
 loadAway μ vid c a x i o (At q) = gives (valueOf (at μ q) i) μ
-loadAway μ vid c a x i o Nowhere = place μ (valueOf (at μ o) i) c (line SS x (at μ o .m) (suc a) (at μ o .word)) (drop (isStaleShare c x (at μ o .m)) (afterRead μ vid a o))
+loadAway μ vid c a x i o Nowhere = place μ (valueOf (at μ o) i) c (shareLine x a (at μ o)) (withoutStale μ vid c a x o)
 
 -- "If the asking cache holds the owner, or else an S-S that hits, its word is the value"
 unfoldable pub loadOwned : Machine → Bool → ℕ → ℕ → ℕ → ℕ → Pos → Answered

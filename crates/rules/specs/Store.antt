@@ -18,7 +18,7 @@ use Rattle.rules.specs.Machine.{at, drop, put, find, gives, place, place
 use Rattle.rules.specs.Abort.{abortOf}
 use Rattle.rules.specs.Load.{plainData, view, isOf}
 
--- "Owner S-O, or a < h in S-M or S-E: misspeculation." For a plain store a is LCVID: "Owner S-O, or S-M or S-E with h > LCVID: misspeculation."
+-- "Owner S-O, or a < h in S-M or S-E: misspeculation."
 unfoldable pub misspeculates : ℕ → Line → Bool
 misspeculates a l = isSO (l .state) || ltb a (l .h)
 
@@ -30,13 +30,17 @@ version x a d = line SM x a a d
 abbrev pub closed : ℕ → Line → Line
 closed a l = line SO (l .address) (l .m) a (l .word)
 
+-- "S-S lines with that m drop": those of the owner at o. "(S-S drops are at that address only.)"
+abbrev pub bared : Machine → ℕ → Pos → Machine
+bared μ x o = drop (λ p l. isShare x (at μ o .m) l) μ
+
 -- "owner S-M with a = m: it and all S-S lines with that m drop, the asker places S-M (a, a)"
 unfoldable pub storeOver : Machine → ℕ → ℕ → ℕ → Data → Pos → Answered
-storeOver μ c a x d o = place μ Done c (version x a d) (put o empty (drop (λ p l. isShare x (at μ o .m) l) μ))
+storeOver μ c a x d o = place μ Done c (version x a d) (put o empty (bared μ x o))
 
 -- "owner with a > m: it becomes S-O (m, a) in its slot, S-S lines with that m drop, the asker places S-M (a, a) with the new word"
 unfoldable pub storeSplit : Machine → ℕ → ℕ → ℕ → Data → Pos → Answered
-storeSplit μ c a x d o = place μ Done c (version x a d) (put o (closed a (at μ o)) (drop (λ p l. isShare x (at μ o .m) l) μ))
+storeSplit μ c a x d o = place μ Done c (version x a d) (put o (closed a (at μ o)) (bared μ x o))
 
 -- "No speculative line live: all lines of the address drop; the asker places S-O (0, a) with the old word, then S-M (a, a)."
 unfoldable pub storeNew : Machine → ℕ → ℕ → ℕ → Data → Answered
@@ -51,16 +55,20 @@ abbrev pub storeBy : Machine → ℕ → ℕ → ℕ → Data → Found → Answ
 storeBy μ c a x d (At o) = storeOwned μ c a x d o
 storeBy μ c a x d Nowhere = storeNew μ c a x d
 
+-- "Owner S-O, or S-M or S-E with h > LCVID: misspeculation."
+abbrev pub misspeculatesPlain : Machine → Line → Bool
+misspeculatesPlain μ l = misspeculates (μ .lcvid) l
+
 -- "Else all lines of the address drop, the asker places M."
 unfoldable pub storeM : Machine → ℕ → ℕ → Data → Answered
 storeM μ c x d = place μ Done c (line M x 0 0 d) (drop (isOf x) μ)
 
-abbrev pub storePlainBy : Machine → ℕ → ℕ → ℕ → Data → Found → Answered
-storePlainBy μ c a x d (At o) = cond (misspeculates a (at μ o)) (gives Misspec (abortOf μ)) (storeM μ c x d)
-storePlainBy μ c a x d Nowhere = storeM μ c x d
+abbrev pub storePlainBy : Machine → ℕ → ℕ → Data → Found → Answered
+storePlainBy μ c x d (At o) = cond (misspeculatesPlain μ (at μ o)) (gives Misspec (abortOf μ)) (storeM μ c x d)
+storePlainBy μ c x d Nowhere = storeM μ c x d
 
 unfoldable pub storeOf : Machine → Bool → ℕ → ℕ → ℕ → Data → Answered
-storeOf μ vid c a x d = cond vid (storeBy μ c a x d (find (λ p l. isOwner x a l) μ)) (storePlainBy μ c a x d (find (λ p l. isOwner x a l) μ))
+storeOf μ vid c a x d = cond vid (storeBy μ c a x d (find (λ p l. isOwner x a l) μ)) (storePlainBy μ c x d (find (λ p l. isOwner x a l) μ))
 
 -- the new version: what a load would see, with the word at place i replaced
 unfoldable pub newData : Machine → ℕ → ℕ → ℕ → ℕ → Data

@@ -100,7 +100,7 @@ module _ (μ : Machine) where
 
   store-unchanged : (vid : Bool) (c a x : ℕ) (d : Data) → Unchanged μ (storeOf μ vid c a x d)
   store-unchanged vid c a x d = store-cases (Unchanged μ) μ vid c a x d (unfold isRefused in record {
-    misspec = λ o is w. taken _ _ refl;
+    misspec = λ o is. taken _ _ refl;
     over = λ v o is w z e s. taken _ _ refl;
     split = λ v o is w z e s. taken _ _ refl;
     first = λ v w e f s t. taken _ _ refl;
@@ -114,8 +114,7 @@ module _ (μ : Machine) where
     dead-line = λ d. taken _ _ refl;
     spare-line = λ a c. taken _ _ refl;
     dirty-line = λ a c. taken _ _ refl;
-    settled-M = λ a h c. taken _ _ refl;
-    settled-E = λ a h c. taken _ _ refl;
+    settled = λ a t h. taken _ _ refl;
     over = taken _ _ refl;
   })
 

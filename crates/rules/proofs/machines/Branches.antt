@@ -2,11 +2,11 @@
 -- Assumes nothing.
 use mathlib.Core.Path.{_≡_, refl}
 use mathlib.Core.Logic.{_≢_}
-use mathlib.Core.Bool.{Bool, true, false, cond, _&&_, not}
-use Prim.Native.Nat.{ℕ, suc, _≤_}
+use mathlib.Core.Bool.{Bool, true, false, cond, _&&_}
+use Prim.Native.Nat.{ℕ, _≤_}
 use lib.Dec.{leb, eqb}
 use borrow.Author.Tests.{eqb-true, eqb-false, leb-true}
-use Rattle.rules.specs.declared.State.the-variants.{M, E, S, SM, SO, SE, SS}
+use Rattle.rules.specs.declared.State.the-variants.{M, E, S, SM, SO, SE}
 use Rattle.rules.specs.declared.Line.{Line}
 use Rattle.rules.specs.declared.Machine.{Machine}
 use Rattle.rules.specs.declared.Pos.{Pos}
@@ -19,15 +19,14 @@ use Rattle.rules.specs.declared.Answer.the-variants.{Value, Done, Misspe
 use Rattle.rules.specs.declared.Reason.the-variants.{NoRoom}
 use Rattle.rules.specs.declared.Answered.{Answered}
 use Rattle.rules.specs.Data.{Data, read}
-use Rattle.rules.specs.States.{isI, isSM, isSE, top, dirty}
-use Rattle.rules.specs.Line.{line, empty, dead, live, isOwner, isPlain, isShare}
+use Rattle.rules.specs.States.{isI, isSM, top, dirty}
+use Rattle.rules.specs.Line.{line, empty, dead, live, isOwner, isPlain}
 use Rattle.rules.specs.Machine.{pos, at, memoryAt, change, drop, put, find, gives, freeSlot, placedIn, place, placedTwoIn, placeTwo}
 use Rattle.rules.specs.Abort.{abortOf}
-use Rattle.rules.specs.Load.{valueOf, afterRead, isOwnShare, isStaleShare, loadAway, loadOwned, plainData, demoteLine, loadCached, loadPlain, isOf, isDirty, loadNew, loadBy, loadOf}
-use Rattle.rules.specs.Store.{misspeculates, version, closed, storeOver, storeSplit, storeNew, storeOwned, storeBy, storeM, storePlainBy, storeOf}
-use Rattle.rules.specs.Evict.{spare, writeBack, withShares, evictOf}
-use Rattle.rules.proofs.base.Bools.{both, left, right, neg, by-test}
-use Rattle.rules.proofs.base.States.{state-rule}
+use Rattle.rules.specs.Load.{valueOf, afterRead, shareLine, withoutStale, isOwnShare, loadAway, loadOwned, plainData, demoteLine, loadCached, loadPlain, isOf, isDirty, loadNew, loadBy, loadOf}
+use Rattle.rules.specs.Store.{misspeculates, misspeculatesPlain, bared, version, closed, storeOver, storeSplit, storeNew, storeOwned, storeBy, storeM, storePlainBy, storeOf}
+use Rattle.rules.specs.Evict.{spare, writeBack, settledOut, evictOf}
+use Rattle.rules.proofs.base.Bools.{left, right, by-test}
 use Rattle.rules.proofs.base.Lines.{Live, live-test}
 use Rattle.rules.proofs.machines.Places.{find-some, find-none}
 use Rattle.rules.proofs.machines.View.{empty-owner, empty-plain}
@@ -57,16 +56,12 @@ module _ (P : Answered → Type 0) (μ : Machine) (r : Answer) (c : ℕ) where
 abbrev pub Unowned : Machine → ℕ → ℕ → Type 0
 Unowned μ x a = (q : Pos) → isOwner x a (at μ q) ≡ false
 
--- the machine before the S-S is placed: the owner read, the asker's stale S-S lines dropped
-abbrev pub unshared : Machine → Bool → ℕ → ℕ → ℕ → Pos → Machine
-unshared μ vid c a x o = drop (isStaleShare c x (at μ o .m)) (afterRead μ vid a o)
-
 pub record LoadBranches (μ : Machine) (vid : Bool) (c a x i : ℕ) (P : Answered → Type 0) : Type 0 where
   -- the asker holds the owner; an S-S of its own that hits; or it places one
   pub owner : (o : Pos) → isOwner x a (at μ o) ≡ true → P (gives (valueOf (at μ o) i) (afterRead μ vid a o))
   pub share : (q : Pos) → isOwnShare c x a q (at μ q) ≡ true → P (gives (valueOf (at μ q) i) μ)
-  pub copy : (o : Pos) → isOwner x a (at μ o) ≡ true → o .cache ≢ c → (e : ℕ) → freeSlot (unshared μ vid c a x o) c ≡ Slot e
-      → P (gives (valueOf (at μ o) i) (put (pos c e) (line SS x (at μ o .m) (suc a) (at μ o .word)) (unshared μ vid c a x o)))
+  pub copy : (o : Pos) → isOwner x a (at μ o) ≡ true → o .cache ≢ c → (e : ℕ) → freeSlot (withoutStale μ vid c a x o) c ≡ Slot e
+      → P (gives (valueOf (at μ o) i) (put (pos c e) (shareLine x a (at μ o)) (withoutStale μ vid c a x o)))
   -- with a VID, otherwise
   pub first : vid ≡ true → Unowned μ x a → (e : ℕ) → freeSlot (drop (isOf x) μ) c ≡ Slot e
       → P (gives (Value (read (plainData μ x) i)) (put (pos c e) (line (cond (isDirty μ x) SM SE) x 0 a (plainData μ x)) (drop (isOf x) μ)))
@@ -83,7 +78,7 @@ load-cases P μ vid c a x i B = go (find (λ p l. isOwner x a l) μ) refl
   where
     away : (o : Pos) → isOwner x a (at μ o) ≡ true → o .cache ≢ c → (r : Found) → find (isOwnShare c x a) μ ≡ r → P (loadAway μ vid c a x i o r)
     away o is n (At q) e = B .share q (find-some (isOwnShare c x a) μ q e)
-    away o is n Nowhere e = place-cases P μ (valueOf (at μ o) i) c _ (unshared μ vid c a x o) (B .copy o is n) (B .full)
+    away o is n Nowhere e = place-cases P μ (valueOf (at μ o) i) c _ (withoutStale μ vid c a x o) (B .copy o is n) (B .full)
 
     owned : (o : Pos) → isOwner x a (at μ o) ≡ true → P (loadOwned μ vid c a x i o)
     owned o is = unfold loadOwned in by-test (eqb (o .cache) c) (λ j. rw j (B .owner o is)) (λ j. rw j (away o is (eqb-false (o .cache) c j) (find (isOwnShare c x a) μ) refl))
@@ -107,12 +102,8 @@ load-cases P μ vid c a x i B = go (find (λ p l. isOwner x a l) μ) refl
 
 -- ---- store
 
--- the machine with the owner's S-S lines dropped
-abbrev pub bared : Machine → ℕ → Pos → Machine
-bared μ x o = drop (λ p l. isShare x (at μ o .m) l) μ
-
 pub record StoreBranches (μ : Machine) (vid : Bool) (c a x : ℕ) (d : Data) (P : Answered → Type 0) : Type 0 where
-  pub misspec : (o : Pos) → isOwner x a (at μ o) ≡ true → misspeculates a (at μ o) ≡ true → P (gives Misspec (abortOf μ))
+  pub misspec : (o : Pos) → isOwner x a (at μ o) ≡ true → P (gives Misspec (abortOf μ))
   -- with a VID: over the owner, which is the store's own version; above it; where there is none
   pub over : vid ≡ true → (o : Pos) → isOwner x a (at μ o) ≡ true → misspeculates a (at μ o) ≡ false → at μ o .m ≡ a → (e : ℕ) → freeSlot (put o empty (bared μ x o)) c ≡ Slot e
       → P (gives Done (put (pos c e) (version x a d) (put o empty (bared μ x o))))
@@ -121,7 +112,7 @@ pub record StoreBranches (μ : Machine) (vid : Bool) (c a x : ℕ) (d : Data) (P
   pub first : vid ≡ true → Unowned μ x a → (e f : ℕ) → freeSlot (drop (isOf x) μ) c ≡ Slot e → freeSlot (put (pos c e) (line SO x 0 a (plainData μ x)) (drop (isOf x) μ)) c ≡ Slot f
       → P (gives Done (put (pos c f) (version x a d) (put (pos c e) (line SO x 0 a (plainData μ x)) (drop (isOf x) μ))))
   -- plain: a settled owner, or none
-  pub plain-owned : vid ≡ false → (o : Pos) → isOwner x a (at μ o) ≡ true → misspeculates a (at μ o) ≡ false → (e : ℕ) → freeSlot (drop (isOf x) μ) c ≡ Slot e
+  pub plain-owned : vid ≡ false → (o : Pos) → isOwner x a (at μ o) ≡ true → misspeculatesPlain μ (at μ o) ≡ false → (e : ℕ) → freeSlot (drop (isOf x) μ) c ≡ Slot e
       → P (gives Done (put (pos c e) (line M x 0 0 d) (drop (isOf x) μ)))
   pub plain-unowned : vid ≡ false → Unowned μ x a → (e : ℕ) → freeSlot (drop (isOf x) μ) c ≡ Slot e → P (gives Done (put (pos c e) (line M x 0 0 d) (drop (isOf x) μ)))
   pub full : P (gives (Refused NoRoom) μ)
@@ -137,7 +128,7 @@ store-cases P μ vid c a x d B = by-test vid (λ v. rw v (with-vid v (find (λ p
     split v o is n j = unfold storeSplit in place-cases P μ Done c _ (put o (closed a (at μ o)) (bared μ x o)) (B .split v o is n j) (B .full)
 
     owned : vid ≡ true → (o : Pos) → isOwner x a (at μ o) ≡ true → P (storeOwned μ c a x d o)
-    owned v o is = unfold storeOwned in by-test (misspeculates a (at μ o)) (λ n. rw n (B .misspec o is n))
+    owned v o is = unfold storeOwned in by-test (misspeculates a (at μ o)) (λ n. rw n (B .misspec o is))
         (λ n. by-test (isSM (at μ o .state) && eqb a (at μ o .m)) (λ j. rw (n, j) (over v o is n (own j))) (λ j. rw (n, j) (split v o is n j)))
       where
         own : (isSM (at μ o .state) && eqb a (at μ o .m)) ≡ true → at μ o .m ≡ a
@@ -147,10 +138,10 @@ store-cases P μ vid c a x d B = by-test vid (λ v. rw v (with-vid v (find (λ p
     with-vid v (At o) e = owned v o (find-some (λ p l. isOwner x a l) μ o e)
     with-vid v Nowhere e = unfold storeNew in place-two-cases P μ Done c _ _ (drop (isOf x) μ) (B .first v (find-none (λ p l. isOwner x a l) μ (λ q. empty-owner x a) e)) (B .full)
 
-    plainly : vid ≡ false → (r : Found) → find (λ p l. isOwner x a l) μ ≡ r → P (storePlainBy μ c a x d r)
+    plainly : vid ≡ false → (r : Found) → find (λ p l. isOwner x a l) μ ≡ r → P (storePlainBy μ c x d r)
     plainly v (At o) e =
         let is = find-some (λ p l. isOwner x a l) μ o e in
-        by-test (misspeculates a (at μ o)) (λ n. rw n (B .misspec o is n)) (λ n. rw n (unfold storeM in place-cases P μ Done c _ (drop (isOf x) μ) (B .plain-owned v o is n) (B .full)))
+        by-test (misspeculatesPlain μ (at μ o)) (λ n. rw n (B .misspec o is)) (λ n. rw n (unfold storeM in place-cases P μ Done c _ (drop (isOf x) μ) (B .plain-owned v o is n) (B .full)))
     plainly v Nowhere e = unfold storeM in place-cases P μ Done c _ (drop (isOf x) μ) (B .plain-unowned v (find-none (λ p l. isOwner x a l) μ (λ q. empty-owner x a) e)) (B .full)
 
 -- ---- evict a slot that is not empty
@@ -159,8 +150,7 @@ pub record EvictBranches (μ : Machine) (p : Pos) (P : Answered → Type 0) : Ty
   pub dead-line : dead (μ .lcvid) (at μ p) ≡ true → P (gives Done (put p empty μ))
   pub spare-line : Live (μ .lcvid) (at μ p) → spare (at μ p .state) ≡ true → P (gives Done (put p empty μ))
   pub dirty-line : Live (μ .lcvid) (at μ p) → dirty (at μ p .state) ≡ true → P (gives Done (writeBack p μ (put p empty μ)))
-  pub settled-M : Live (μ .lcvid) (at μ p) → at μ p .h ≤ μ .lcvid → isSM (at μ p .state) ≡ true → P (gives Done (writeBack p μ (withShares μ p)))
-  pub settled-E : Live (μ .lcvid) (at μ p) → at μ p .h ≤ μ .lcvid → isSE (at μ p .state) ≡ true → P (gives Done (withShares μ p))
+  pub settled : Live (μ .lcvid) (at μ p) → top (at μ p .state) ≡ true → at μ p .h ≤ μ .lcvid → P (gives Done (settledOut μ p))
   pub over : P (gives Overflow (abortOf μ))
 
 pub evict-cases : (P : Answered → Type 0) (μ : Machine) (p : Pos) → isI (at μ p .state) ≡ false → EvictBranches μ p P → P (evictOf μ p)
@@ -169,12 +159,9 @@ evict-cases P μ p some B =
     by-test (dead (μ .lcvid) (at μ p)) (λ d. rw d (B .dead-line d))
     (λ d. by-test (spare (at μ p .state)) (λ c. rw (d, c) (B .spare-line (alive d) c))
     (λ c. by-test (dirty (at μ p .state)) (λ e. rw (d, c, e) (B .dirty-line (alive d) e))
-    (λ e. by-test (top (at μ p .state) && leb (at μ p .h) (μ .lcvid)) (λ t. by-test (isSM (at μ p .state)) (λ u. rw (d, c, e, t, u) (B .settled-M (alive d) (low t) u))
-    (λ u. rw (d, c, e, t, u) (B .settled-E (alive d) (low t) (state-rule (λ s. top s && not (isSM s)) isSE refl (at μ p .state) (both (left (top (at μ p .state)) (leb (at μ p .h) (μ .lcvid)) t) (neg u))))))
+    (λ e. by-test (top (at μ p .state) && leb (at μ p .h) (μ .lcvid))
+    (λ t. rw (d, c, e, t) (B .settled (alive d) (left (top (at μ p .state)) (leb (at μ p .h) (μ .lcvid)) t) (leb-true (at μ p .h) (μ .lcvid) (right (top (at μ p .state)) (leb (at μ p .h) (μ .lcvid)) t))))
     (λ t. rw (d, c, e, t) (B .over)))))
   where
     alive : dead (μ .lcvid) (at μ p) ≡ false → Live (μ .lcvid) (at μ p)
     alive d = live-test (μ .lcvid) (at μ p) .says (unfold live in rw (some, d) refl)
-
-    low : (top (at μ p .state) && leb (at μ p .h) (μ .lcvid)) ≡ true → at μ p .h ≤ μ .lcvid
-    low t = leb-true (at μ p .h) (μ .lcvid) (right (top (at μ p .state)) (leb (at μ p .h) (μ .lcvid)) t)

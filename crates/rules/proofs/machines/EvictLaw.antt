@@ -15,7 +15,7 @@ use Rattle.rules.specs.Line.{empty, dead, live, isShare}
 use Rattle.rules.specs.Machine.{at, memoryAt, change, drop, put, write, gives}
 use Rattle.rules.specs.House.{LineRules}
 use Rattle.rules.specs.Abort.{abortOf}
-use Rattle.rules.specs.Evict.{spare, writeBack, withShares, evictOf}
+use Rattle.rules.specs.Evict.{spare, writeBack, withShares, settledOut, evictOf}
 use Rattle.rules.proofs.base.Bools.{both, neg, not-both, by-test}
 use Rattle.rules.proofs.base.States.{state-rule, state-never}
 use Rattle.rules.proofs.base.Lines.{Live, live-test, Here, share-test, pos-dec, not-here}
@@ -139,6 +139,11 @@ module _ {N : ℕ} {μ : Machine} (s : Sound N μ) (p : Pos) (alive : Live (μ .
       has : at δ p .word ≡ memoryAt δ z
       has = dropped .sound .each z .meets p here-p .clean (rw same-p (state-rule isSE (λ s. isE s || isSE s) refl (at μ p .state) c))
 
+  -- S-M writes it, and S-E has it there
+  settled-law : y < length (μ .memory) → Keeps N μ (settledOut μ p) (μ .lcvid) y
+  unfolding settledOut
+  settled-law low = by-test (isSM (at μ p .state)) (λ i. rw i (settled-M-law low)) (λ i. rw i (settled-E-law (state-rule (λ s. top s && not (isSM s)) isSE refl (at μ p .state) (both t (neg i)))))
+
 -- ---- the law of evictions
 
 pub evict-law : {N : ℕ} {μ : Machine} (s : Sound N μ) (p : Pos) → isI (at μ p .state) ≡ false → at μ p .address < length (μ .memory) → EvictOutcome N μ (at μ p .address) (evictOf μ p)
@@ -146,7 +151,6 @@ evict-law {N} {μ} s p some low = evict-cases (EvictOutcome N μ (at μ p .addre
   dead-line = λ d. emptied _ (dead-law s p some d);
   spare-line = λ a c. emptied _ (spare-law s p some a c);
   dirty-line = λ a c. emptied _ (dirty-law s p some a low c);
-  settled-M = λ a h c. emptied _ (settled-M-law s p a (state-rule isSM top refl (at μ p .state) c) h low);
-  settled-E = λ a h c. emptied _ (settled-E-law s p a (state-rule isSE top refl (at μ p .state) c) h c);
+  settled = λ a t h. emptied _ (settled-law s p a t h low);
   over = overflowed;
 })

@@ -11,7 +11,7 @@ use Rattle.rules.specs.declared.Line.{Line}
 use Rattle.rules.specs.declared.Machine.{Machine}
 use Rattle.rules.specs.declared.Pos.{Pos}
 use Rattle.rules.specs.Data.{Data}
-use Rattle.rules.specs.States.{isI, spec, ranged, top, owns}
+use Rattle.rules.specs.States.{isI, isSM, spec, ranged, top, owns}
 use Rattle.rules.specs.Line.{empty, hits, isOwner}
 use Rattle.rules.specs.Machine.{pos, at, change, drop, put, write, withLcvid}
 use Rattle.rules.specs.Abort.{abortLine, abortOf}
@@ -19,7 +19,7 @@ use Rattle.rules.specs.Load.{readBy, afterRead, demoteLine, isOf, loadOf
 use Rattle.rules.specs.Store.{storeOf}
 use Rattle.rules.specs.Commit.{commitOf}
 use Rattle.rules.specs.Reset.{resetLine, resetOf}
-use Rattle.rules.specs.Evict.{withShares, evictOf}
+use Rattle.rules.specs.Evict.{withShares, settledOut, evictOf}
 use Rattle.rules.proofs.base.Bools.{by-test}
 use Rattle.rules.proofs.base.States.{state-not}
 use Rattle.rules.proofs.base.Lines.{owner-test}
@@ -152,7 +152,7 @@ module _ {n : ℕ} {μ : Machine} (F : Framed n μ) where
 
     pub store-framed : (vid : Bool) (a : ℕ) (d : Data) → Framed n (storeOf μ vid c a x d .machine)
     store-framed vid a d = store-cases (λ r. Framed n (r .machine)) μ vid c a x d (record {
-      misspec = λ o is w. abort-framed;
+      misspec = λ o is. abort-framed;
       over = λ v o is w z e slot. put-framed _ (pos c e) _ asks low (put-framed _ o empty (used o (owner-some x a o is)) (omega arith) (drop-framed _ μ F));
       split = λ v o is w z e slot. put-framed _ (pos c e) _ asks low (put-framed _ o _ (used o (owner-some x a o is)) (F .frame .addresses o) (drop-framed _ μ F));
       first = λ v w e f slot slot′. put-framed _ (pos c f) _ asks low (put-framed _ (pos c e) _ asks low (drop-framed (isOf x) μ F));
@@ -166,8 +166,7 @@ module _ {n : ℕ} {μ : Machine} (F : Framed n μ) where
     dead-line = λ d. emptied p some;
     spare-line = λ a c. emptied p some;
     dirty-line = λ a c. write-framed _ _ _ (emptied p some);
-    settled-M = λ a h c. write-framed _ _ _ bare;
-    settled-E = λ a h c. bare;
+    settled = λ a t h. unfold settledOut in by-test (isSM (at μ p .state)) (λ i. rw i (write-framed _ _ _ bare)) (λ i. rw i bare);
     over = abort-framed;
   })
     where

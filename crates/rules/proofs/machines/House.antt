@@ -1,6 +1,5 @@
 -- Document 01's house rules and the form that the proofs use say the same of a machine of the right sizes; so the test decides document 01's.
 -- Assumes nothing.
-use mathlib.Core.Bool.{Bool}
 use Rattle.rules.specs.declared.Machine.{Machine}
 use Rattle.rules.specs.Machine.{vids}
 use Rattle.rules.specs.House.{Sized, House}

@@ -3,12 +3,12 @@
 use mathlib.Core.Path.{_≡_, refl, sym, _∙_, subst}
 use mathlib.Core.Logic.{_≢_, _⊎_, inl, inr}
 use mathlib.Core.Bool.{Bool, true, false, cond, _&&_, _||_, not, false≢true}
-use Prim.Native.Nat.{ℕ, suc, _≤_, _<_, max}
+use Prim.Native.Nat.{ℕ, _≤_, _<_, max}
 use native.Mathlib.Omega.{arith}
 use lib.Dec.{eqb}
 use lib.ListN.{length}
 use Rattle.rules.specs.declared.State.{State}
-use Rattle.rules.specs.declared.State.the-variants.{O, E, S, SM, SE, SS}
+use Rattle.rules.specs.declared.State.the-variants.{O, E, S, SM, SE}
 use Rattle.rules.specs.declared.Line.{Line}
 use Rattle.rules.specs.declared.Machine.{Machine}
 use Rattle.rules.specs.declared.Pos.{Pos}
@@ -20,7 +20,7 @@ use Rattle.rules.specs.Data.{Data, read}
 use Rattle.rules.specs.States.{isI, isO, isE, isS, isSO, isSE, isSS, plain, spec, ranged, top, dirty}
 use Rattle.rules.specs.Line.{line, isOwner, isPlain}
 use Rattle.rules.specs.Machine.{pos, at, memoryAt, change, drop, put, gives, freeSlot}
-use Rattle.rules.specs.Load.{afterRead, isOwnShare, plainData, view, demoteLine, isOf, isDirty, loadOf}
+use Rattle.rules.specs.Load.{afterRead, shareLine, withoutStale, isOwnShare, plainData, view, demoteLine, isOf, isDirty, loadOf}
 use Rattle.rules.proofs.base.Bools.{both, neg, not-both, by-test}
 use Rattle.rules.proofs.base.Tests.{Decides, is-test, eq-test, and-test}
 use Rattle.rules.proofs.base.States.{state-rule, state-not, owns-spec, owns-cases, ss-ranged, owns-ranged, plain-or-spec}
@@ -39,7 +39,7 @@ use Rattle.rules.proofs.machines.Moves.{put-fits, put-memory, placed-ne
 use Rattle.rules.proofs.machines.Shared.{share-placed, shared-placed}
 use Rattle.rules.proofs.machines.Replace.{replaced-new, replaced-only, replaced-local, replaced-fits, replaced-memory}
 use Rattle.rules.proofs.machines.Read.{Reads, reads, reads-mark}
-use Rattle.rules.proofs.machines.Branches.{Unowned, unshared, load-cases}
+use Rattle.rules.proofs.machines.Branches.{Unowned, load-cases}
 
 -- what a load comes to
 pub data LoadOutcome (N : ℕ) (μ : Machine) (a x i : ℕ) : Answered → Type 0 where
@@ -133,8 +133,8 @@ module _ {N : ℕ} {μ : Machine} (s : Sound N μ) (vid : Bool) (c a x i : ℕ) 
           go (inr t) = (p, own .1, (t, omega (arith, in-q, y .reach)))
 
   -- the owner is read, stale S-S lines drop, and S-S is placed
-  copied : (o : Pos) → isOwner x a (at μ o) ≡ true → o .cache ≢ c → (e : ℕ) → freeSlot (unshared μ vid c a x o) c ≡ Slot e
-      → Ok (gives (Value (read (at μ o .word) i)) (put (pos c e) (line SS x (at μ o .m) (suc a) (at μ o .word)) (unshared μ vid c a x o)))
+  copied : (o : Pos) → isOwner x a (at μ o) ≡ true → o .cache ≢ c → (e : ℕ) → freeSlot (withoutStale μ vid c a x o) c ≡ Slot e
+      → Ok (gives (Value (read (at μ o .word) i)) (put (pos c e) (shareLine x a (at μ o)) (withoutStale μ vid c a x o)))
   copied o is away e slot = returns (at μ o .word) _ (owner-view s x a up o O) (keeps-keeps (R .keeps) placed) (λ j. placed .keeps x a (rw (R .keeps .last) j) (rw (has-vid j) (reads-mark s a x small o O j)))
     where
       O : OwnerAt (at μ) (μ .lcvid) x a o
@@ -149,7 +149,7 @@ module _ {N : ℕ} {μ : Machine} (s : Sound N μ) (vid : Bool) (c a x i : ℕ) 
       high : top (at ρ o .state) ≡ true → a ≤ max (at ρ o .h) (ρ .lcvid)
       high t = by-test vid (λ v. omega (arith, R .high v (was (R .like) top t))) (λ v. omega (arith, plainly v, R .keeps .last))
 
-      placed : Keeps N ρ (put (pos c e) (line SS x (at μ o .m) (suc a) (at μ o .word)) (unshared μ vid c a x o)) a x
+      placed : Keeps N ρ (put (pos c e) (shareLine x a (at μ o)) (withoutStale μ vid c a x o)) a x
       placed = share-placed (R .keeps .sound) c a x e (at μ o .m) (at μ o .word) o (owner-like (R .like) (R .here) (subst (λ (lc : ℕ). OwnerAt (at μ) lc x a o) (sym (R .keeps .last)) O)) (R .like .same-m) (R .like .word) (rw (R .keeps .last) up) small (rw (R .width) in-range) away high slot
 
   -- ---- no owner, so no speculative line lives

@@ -23,7 +23,7 @@ use Rattle.rules.specs.Machine.{pos, at, memoryAt, drop, put, gives, fre
 use Rattle.rules.specs.House.{LineRules}
 use Rattle.rules.specs.Abort.{abortOf}
 use Rattle.rules.specs.Load.{plainData, view, isOf}
-use Rattle.rules.specs.Store.{misspeculates, version, closed, storeOf}
+use Rattle.rules.specs.Store.{misspeculates, misspeculatesPlain, bared, version, closed, storeOf}
 use Rattle.rules.proofs.base.Bools.{both, neg, or-false, not-both, by-test}
 use Rattle.rules.proofs.base.States.{state-rule, owns-not-ss}
 use Rattle.rules.proofs.base.Lines.{Here, live-test, share-test, pos-dec, plain-here, not-here}
@@ -40,7 +40,7 @@ use Rattle.rules.proofs.machines.Local.{off-at, off-empty, local-trans,
 use Rattle.rules.proofs.machines.Moves.{put-local, put-fits, put-memory, put-width, placed-new, placed-free, placed-local, drop-width}
 use Rattle.rules.proofs.machines.Replace.{replaced-new, replaced-only, replaced-local, replaced-fits, replaced-memory}
 use Rattle.rules.proofs.machines.Shared.{shares-dropped}
-use Rattle.rules.proofs.machines.Branches.{Unowned, bared, store-cases}
+use Rattle.rules.proofs.machines.Branches.{Unowned, store-cases}
 
 -- what a store comes to
 pub data StoreOutcome (N : ℕ) (μ : Machine) (a x : ℕ) (d : Data) : Answered → Type 0 where
@@ -251,14 +251,14 @@ module _ {N : ℕ} {μ : Machine} (s : Sound N μ) (vid : Bool) (c a x : ℕ) (d
       ν : Machine
       ν = put (pos c e) (line M x 0 0 d) (drop (isOf x) μ)
 
-  plain-owned : vid ≡ false → (o : Pos) → isOwner x a (at μ o) ≡ true → misspeculates a (at μ o) ≡ false → (e : ℕ) → freeSlot (drop (isOf x) μ) c ≡ Slot e → Ok (gives Done (put (pos c e) (line M x 0 0 d) (drop (isOf x) μ)))
-  plain-owned v o is n = plain v (λ b i k. omega (arith, plainly v, t .1, mark-on (good s x) o (own .here) (t .0) b k)) (λ b i. top-flat s x (μ .lcvid) (omega arith) o (subst (λ (b : ℕ). OwnerAt (at μ) (μ .lcvid) x b o) (plainly v) own) (t .0) b i)
+  plain-owned : vid ≡ false → (o : Pos) → isOwner x a (at μ o) ≡ true → misspeculatesPlain μ (at μ o) ≡ false → (e : ℕ) → freeSlot (drop (isOf x) μ) c ≡ Slot e → Ok (gives Done (put (pos c e) (line M x 0 0 d) (drop (isOf x) μ)))
+  plain-owned v o is n = plain v (λ b i k. omega (arith, t .1, mark-on (good s x) o (own .here) (t .0) b k)) (λ b i. top-flat s x (μ .lcvid) (omega arith) o (subst (λ (b : ℕ). OwnerAt (at μ) (μ .lcvid) x b o) (plainly v) own) (t .0) b i)
     where
       own : OwnerAt (at μ) (μ .lcvid) x a o
       own = owner-at s x a (omega (arith, plainly v)) o is
 
-      t : (top (at μ o .state) ≡ true) × (at μ o .h ≤ a)
-      t = unread-top a (at μ o) (own .owning) n
+      t : (top (at μ o .state) ≡ true) × (at μ o .h ≤ μ .lcvid)
+      t = unread-top (μ .lcvid) (at μ o) (own .owning) n
 
   plain-unowned : vid ≡ false → Unowned μ x a → (e : ℕ) → freeSlot (drop (isOf x) μ) c ≡ Slot e → Ok (gives Done (put (pos c e) (line M x 0 0 d) (drop (isOf x) μ)))
   plain-unowned v none = plain v (λ b i. quiet-unmarked μ x quiet′ b) (λ b i. quiet-flat s x (μ .lcvid) (omega arith) quiet′ b i (view μ x b) (view-sees s x b i))
@@ -267,4 +267,4 @@ module _ {N : ℕ} {μ : Machine} (s : Sound N μ) (vid : Bool) (c a x : ℕ) (d
       quiet′ = unowned s x a (omega (arith, plainly v)) none
 
   pub store-law : StoreOutcome N μ a x d (storeOf μ vid c a x d)
-  store-law = store-cases Ok μ vid c a x d (record { misspec = λ o is n. misspeculated; over = over; split = split; first = first; plain-owned = plain-owned; plain-unowned = plain-unowned; full = no-room })
+  store-law = store-cases Ok μ vid c a x d (record { misspec = λ o is. misspeculated; over = over; split = split; first = first; plain-owned = plain-owned; plain-unowned = plain-unowned; full = no-room })
