@@ -22,7 +22,7 @@ use Rattle.rules.specs.States.{isI, isSM, isSO, ranged, top, owns, dirty
 use Rattle.rules.specs.Line.{line, empty, dead, hits, isOwner, isShare}
 use Rattle.rules.specs.Machine.{pos, at, memoryAt, vids, change, drop, put, find, gives}
 use Rattle.rules.specs.House.{Sized, House, Lives}
-use Rattle.rules.specs.Abort.{abortLine}
+use Rattle.rules.specs.Abort.{abortLine, abortOf}
 use Rattle.rules.specs.Load.{isOf}
 use Rattle.rules.specs.Store.{misspeculates, bared, storeOwned, storeBy, storeOf}
 use Rattle.rules.specs.Evict.{spare, writeBack, withShares, settledOut, evictOf}
@@ -35,6 +35,7 @@ use Rattle.rules.proofs.address.Owners.{owner-once}
 use Rattle.rules.proofs.machines.Places.{drop-gone, drop-stays, at-put-any, find-some, find-none}
 use Rattle.rules.proofs.machines.View.{empty-owner, owner-at, owner-view}
 use Rattle.rules.proofs.machines.Moves.{write-memory}
+use Rattle.rules.proofs.machines.Settle.{abort-at}
 use Rattle.rules.proofs.machines.StepLaw.{lastOf, wordView, wordMarked, LawOf}
 use Rattle.rules.proofs.history.Laws.{Evicts}
 use Rattle.rules.proofs.address.Sound.{OwnerAt}
@@ -45,11 +46,15 @@ use Rattle.rules.proofs.machines.House.{house-sound}
 
 -- ---- "On abort keeping S-M and dropping S-O by state alone."
 
--- with LCVID 3, of S-O (0, 2), S-O (2, 5) and S-M (5, 7) of any address only the second survives, as M
-pub abort-keeps-what-lcvid-hits : (x : ℕ) (u v w : Data)
-    → (abortLine 3 (line SO x 0 2 u) ≡ empty) × (abortLine 3 (line SO x 2 5 v) ≡ line M x 0 0 v) × (abortLine 3 (line SM x 5 7 w) ≡ empty)
+-- with LCVID 3, of S-O (0, 2), S-O (2, 5) and S-M (5, 7) of an address only the second survives, as M
+pub abort-keeps-what-lcvid-hits : (μ : Machine) → μ .lcvid ≡ 3 → (x : ℕ) (u v w : Data) (p q r : Pos) → at μ p ≡ line SO x 0 2 u → at μ q ≡ line SO x 2 5 v → at μ r ≡ line SM x 5 7 w
+    → (at (abortOf μ) p ≡ empty) × (at (abortOf μ) q ≡ line M x 0 0 v) × (at (abortOf μ) r ≡ empty)
 unfolding abortLine hits
-abort-keeps-what-lcvid-hits x u v w = (refl, refl, refl)
+abort-keeps-what-lcvid-hits μ l x u v w p q r a b c = (
+  abort-at μ p ∙ ap (λ (n : ℕ). abortLine n (at μ p)) l ∙ ap (abortLine 3) a,
+  abort-at μ q ∙ ap (λ (n : ℕ). abortLine n (at μ q)) l ∙ ap (abortLine 3) b,
+  abort-at μ r ∙ ap (λ (n : ℕ). abortLine n (at μ r)) l ∙ ap (abortLine 3) c,
+)
 
 -- an answer that is not done
 isDone : Answer → Bool

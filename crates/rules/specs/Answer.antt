@@ -23,13 +23,28 @@ numberOf NoRoom = 11
 numberOf Unreadable = 12
 numberOf NoFit = 13
 
--- "Answers: value (a load), done (any other step), or instead misspec, overflow, refused-N", in ASCII; N follows the last
+-- "Answers: value (a load), done (any other step), or instead misspec, overflow, refused-N", in ASCII; the number N follows the last
+abbrev pub valueText : List ℕ
+valueText = 118 ∷ 97 ∷ 108 ∷ 117 ∷ 101 ∷ []
+
+abbrev pub doneText : List ℕ
+doneText = 100 ∷ 111 ∷ 110 ∷ 101 ∷ []
+
+abbrev pub misspecText : List ℕ
+misspecText = 109 ∷ 105 ∷ 115 ∷ 115 ∷ 112 ∷ 101 ∷ 99 ∷ []
+
+abbrev pub overflowText : List ℕ
+overflowText = 111 ∷ 118 ∷ 101 ∷ 114 ∷ 102 ∷ 108 ∷ 111 ∷ 119 ∷ []
+
+abbrev pub refusedText : List ℕ
+refusedText = 114 ∷ 101 ∷ 102 ∷ 117 ∷ 115 ∷ 101 ∷ 100 ∷ 45 ∷ []
+
 abbrev pub textOf : Answer → List ℕ
-textOf (Value w) = 118 ∷ 97 ∷ 108 ∷ 117 ∷ 101 ∷ []
-textOf Done = 100 ∷ 111 ∷ 110 ∷ 101 ∷ []
-textOf Misspec = 109 ∷ 105 ∷ 115 ∷ 115 ∷ 112 ∷ 101 ∷ 99 ∷ []
-textOf Overflow = 111 ∷ 118 ∷ 101 ∷ 114 ∷ 102 ∷ 108 ∷ 111 ∷ 119 ∷ []
-textOf (Refused r) = 114 ∷ 101 ∷ 102 ∷ 117 ∷ 115 ∷ 101 ∷ 100 ∷ 45 ∷ []
+textOf (Value w) = valueText
+textOf Done = doneText
+textOf Misspec = misspecText
+textOf Overflow = overflowText
+textOf (Refused r) = refusedText
 
 -- the number of a refusal, 0 where nothing is refused
 abbrev pub refusalOf : Answer → ℕ
@@ -46,3 +61,12 @@ dataOf Done = 0
 dataOf Misspec = 0
 dataOf Overflow = 0
 dataOf (Refused r) = 0
+
+-- what an answer shows: its text, the number of a refusal behind it, and the data
+pub record Shown : Type 0 where
+  pub text : List ℕ
+  pub number : ℕ
+  pub value : ℕ
+
+abbrev pub shown : Answer → Shown
+shown r = record { text = textOf r; number = refusalOf r; value = dataOf r }

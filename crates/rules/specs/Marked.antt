@@ -5,9 +5,8 @@ use mathlib.Core.List.{List, [], _∷_, map}
 use lib.ListN.{replicate}
 use Rattle.rules.specs.declared.Op.{Op}
 use Rattle.rules.specs.declared.Op.the-variants.{Load, Store, Commit}
-use Rattle.rules.specs.declared.Answer.{Answer}
-use Rattle.rules.specs.declared.Answer.the-variants.{Value, Done, Misspec, Refused}
-use Rattle.rules.specs.declared.Reason.the-variants.{VidNotNext}
+use Prim.Native.Nat.{ℕ}
+use Rattle.rules.specs.Answer.{valueText, doneText, misspecText, refusedText, Shown, shown}
 use Rattle.rules.specs.Machine.{fresh}
 use Rattle.rules.specs.Step.{stepOf}
 use Rattle.rules.specs.Flights.{events}
@@ -26,9 +25,24 @@ markedSteps =
     ∷ Commit 3
     ∷ []
 
-abbrev pub markedAnswers : List Answer
-markedAnswers = Done ∷ Value 10 ∷ Value 0 ∷ Done ∷ Value 10 ∷ Done ∷ Value 20 ∷ Misspec ∷ Value 10 ∷ Refused VidNotNext ∷ []
+-- as document 01's exact report shows them: a text, the number of a refusal or 0, the data
+abbrev row : List ℕ → ℕ → ℕ → Shown
+row t n d = record { text = t; number = n; value = d }
+
+abbrev pub markedAnswers : List Shown
+markedAnswers =
+    row doneText 0 0
+    ∷ row valueText 0 10
+    ∷ row valueText 0 0
+    ∷ row doneText 0 0
+    ∷ row valueText 0 10
+    ∷ row doneText 0 0
+    ∷ row valueText 0 20
+    ∷ row misspecText 0 0
+    ∷ row valueText 0 10
+    ∷ row refusedText 8 0
+    ∷ []
 
 -- from a fresh machine of two caches with zero memory
 unfoldable pub Marked : Type 0
-Marked = map (λ e. e .answer) (events (λ μ op. stepOf μ op .answer) (λ μ op. stepOf μ op .machine) (fresh 2 (replicate 64 0)) markedSteps) ≡ markedAnswers
+Marked = map (λ e. shown (e .answer)) (events (λ μ op. stepOf μ op .answer) (λ μ op. stepOf μ op .machine) (fresh 2 (replicate 64 0)) markedSteps) ≡ markedAnswers

@@ -20,9 +20,6 @@ row i m o e s sm so se ss = elim [ I ↦ i | M ↦ m | O ↦ o | E ↦ e | S ↦
 abbrev pub isI : State → Bool
 isI = row ✓ · · · · · · · ·
 
-abbrev pub isM : State → Bool
-isM = row · ✓ · · · · · · ·
-
 abbrev pub isO : State → Bool
 isO = row · · ✓ · · · · · ·
 

@@ -63,13 +63,6 @@ pub record Meets (f : Pos → Line) (lc x : ℕ) (w : Data) (p : Pos) (k : Line)
   pub next : isSO (k .state) ≡ true → There f lc x (From (k .h))
   pub owner : isSS (k .state) ≡ true → There f lc x (OwnedBy lc p k)
 
--- every two live lines of x at places of a class
-abbrev pub Pairs : (Pos → Line) → ℕ → ℕ → (Pos → Type 0) → Type 0
-Pairs f lc x On = (p q : Pos) → p ≢ q → On p → On q → Here lc x (f p) → Here lc x (f q) → Stand p q (f p) (f q)
-
-abbrev pub Anywhere : Pos → Type 0
-Anywhere p = Unit {0}
-
 pub record SoundAt (f : Pos → Line) (lc x : ℕ) (w : Data) : Type 0 where
   pub stand : (p q : Pos) → p ≢ q → Here lc x (f p) → Here lc x (f q) → Stand p q (f p) (f q)
   pub meets : (p : Pos) → Here lc x (f p) → Meets f lc x w p (f p)

@@ -53,13 +53,13 @@ module _ {N : ℕ} {μ : Machine} (s : Sound N μ) (small : suc (μ .lcvid) < N)
 
 -- ---- abort
 
-module _ {N : ℕ} {μ : Machine} (s : Sound N μ) where
-  pub abort-at : (p : Pos) → at (abortOf μ) p ≡ abortLine (μ .lcvid) (at μ p)
-  unfolding abortOf
-  abort-at p = at-change (λ p l. abortLine (μ .lcvid) l) μ (λ p. unfold abortLine in refl) p
+pub abort-at : (μ : Machine) (p : Pos) → at (abortOf μ) p ≡ abortLine (μ .lcvid) (at μ p)
+unfolding abortOf
+abort-at μ p = at-change (λ p l. abortLine (μ .lcvid) l) μ (λ p. unfold abortLine in refl) p
 
+module _ {N : ℕ} {μ : Machine} (s : Sound N μ) where
   abort-rules : (p : Pos) → LineRules N (at (abortOf μ) p)
-  abort-rules p = rw (abort-at p) (unfold abortLine in by-test (spec (at μ p .state))
+  abort-rules p = rw (abort-at μ p) (unfold abortLine in by-test (spec (at μ p .state))
       (λ i. by-test (owns (at μ p .state) && hits (μ .lcvid) (at μ p))
       (λ j. rw (i, j) (rules-plain N (settled (at μ p)) (state-rule owns (λ s. plain (settle s)) refl (at μ p .state) (left (owns (at μ p .state)) (hits (μ .lcvid) (at μ p)) j)) refl refl)) (λ j. rw (i, j) (rules-empty N)))
       (λ i. rw i (s .fits p)))
@@ -71,10 +71,10 @@ module _ {N : ℕ} {μ : Machine} (s : Sound N μ) where
   abort-memory x = unfold abortOf change memoryAt in refl
 
   sound-each : (x : ℕ) → SoundAt (at (abortOf μ)) (μ .lcvid) x (memoryAt (abortOf μ) x)
-  sound-each x = rw (abort-memory x) (sound-abort (good s x) abort-at)
+  sound-each x = rw (abort-memory x) (sound-abort (good s x) (abort-at μ))
 
   sees-each : (x a : ℕ) → Sees (at (abortOf μ)) (μ .lcvid) x (memoryAt (abortOf μ) x) a (view μ x (μ .lcvid))
-  sees-each x a = rw (abort-memory x) (sees-abort (good s x) abort-at a (view μ x (μ .lcvid)) (view-sees s x (μ .lcvid) (omega arith)))
+  sees-each x a = rw (abort-memory x) (sees-abort (good s x) (abort-at μ) a (view μ x (μ .lcvid)) (view-sees s x (μ .lcvid) (omega arith)))
 
   pub abort-sound : Sound N (abortOf μ)
   abort-sound = record { small = rw abort-last (s .small); fits = abort-rules; each = λ x. subst (λ (lc : ℕ). SoundAt (at (abortOf μ)) lc x (memoryAt (abortOf μ) x)) (sym abort-last) (sound-each x) }
@@ -84,7 +84,7 @@ module _ {N : ℕ} {μ : Machine} (s : Sound N μ) where
   abort-view x a i = view-is abort-sound x a (rw abort-last i) (view μ x (μ .lcvid)) (subst (λ (lc : ℕ). Sees (at (abortOf μ)) lc x (memoryAt (abortOf μ) x) a (view μ x (μ .lcvid))) (sym abort-last) (sees-each x a))
 
   abort-none : (p : Pos) → spec (at (abortOf μ) p .state) ≡ false
-  abort-none p = rw (abort-at p) (abort-plain (μ .lcvid) (at μ p))
+  abort-none p = rw (abort-at μ p) (abort-plain (μ .lcvid) (at μ p))
 
   pub abort-clear : (x b : ℕ) → Marked (abortOf μ) x b → ⊥
   abort-clear x b = no-mark (at (abortOf μ)) (abortOf μ .lcvid) 0 x abort-none b
@@ -125,7 +125,7 @@ module _ {N : ℕ} {μ : Machine} (s : Sound N μ) where
     reset-at : (p : Pos) → at (resetOf μ) p ≡ at (abortOf μ) p
     reset-at p =
         let e : at (resetOf μ) p ≡ resetLine (at μ p) = unfold resetOf withLcvid at in at-change (λ p l. resetLine l) μ (λ p. unfold resetLine in refl) p in
-        e ∙ as-abort p ∙ sym (abort-at p)
+        e ∙ as-abort p ∙ sym (abort-at μ p)
 
     reset-lines : at (resetOf μ) ≡ at (abortOf μ)
     reset-lines = fun-ext reset-at

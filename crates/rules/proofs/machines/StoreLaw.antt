@@ -78,9 +78,6 @@ module _ {N : ℕ} {μ : Machine} (s : Sound N μ) (c a x e : ℕ) (d : Data) (i
   abbrev ν : Machine
   ν = put n (version x a d) ε
 
-  shared : Pos → Line → Bool
-  shared p l = isShare x (at μ o .m) l
-
   dropped : Keeps N μ δ a x
   dropped = shares-dropped s (λ p l. isShare x (at μ o .m) l) a x (λ p l i. let t = share-test x (at μ o .m) l .says i in (t .0, t .1 .0))
 
