@@ -54,12 +54,12 @@ rule-is-step μ z h op = rw (house μ z .when h)
 -- so a load or store that no check refuses is its rule
 pub load-is-rule : (μ : Machine) → Sized μ → House μ → (c v at : ℕ) → Admitted μ c v at → stepOf μ (Load c v at) ≡ loadOf μ (hasVid v) c (actsWith (μ .lcvid) v) (lineOf at) (wordOf at)
 unfolding ruleOf
-load-is-rule μ z h c v at A = rule-is-step μ z h (Load c v at) ∙ admitted A _
+load-is-rule μ z h c v at A = rule-is-step μ z h (Load c v at) ∙ admitted A (h .last) _
 
 pub store-is-rule : (μ : Machine) → Sized μ → House μ → (c v at w : ℕ) → Admitted μ c v at
     → stepOf μ (Store c v at w) ≡ storeOf μ (hasVid v) c (actsWith (μ .lcvid) v) (lineOf at) (newData μ (actsWith (μ .lcvid) v) (lineOf at) (wordOf at) w)
 unfolding ruleOf
-store-is-rule μ z h c v at w A = rule-is-step μ z h (Store c v at w) ∙ admitted A _
+store-is-rule μ z h c v at w A = rule-is-step μ z h (Store c v at w) ∙ admitted A (h .last) _
 
 -- a load that no check refuses returns what its number sees, or there is no room for the line that it would place
 pub load-returns : (μ : Machine) → Sized μ → House μ → (c v at : ℕ) → Admitted μ c v at

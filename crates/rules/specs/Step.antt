@@ -34,14 +34,16 @@ actsWith lc (suc v) = suc v
 abbrev pub hasVid : ℕ → Bool
 hasVid v = not (eqb v 0)
 
--- what loads and stores are refused for: 3, 4, 6, and 7, "VID from 1 to LCVID"
+-- what loads and stores are refused for: 3, 4, 6, and 7, "VID from 1 to LCVID". Before them 2, where LCVID is above the last VID: such a machine is not
+-- sound, and the numbers of a plain access would not fit.
 unfoldable pub checked : Machine → ℕ → ℕ → ℕ → Answered → Answered
 checked μ c v at rest =
-    refuse (leb (μ .count) c) NoSuchCache μ
+    refuse (leb (vids μ) (μ .lcvid)) NotSound μ
+    (refuse (leb (μ .count) c) NoSuchCache μ
     (refuse (ltb lastAddress at) AddressTooLarge μ
     (refuse (leb (vids μ) v) VidTooLarge μ
     (refuse (hasVid v && leb v (μ .lcvid)) VidPast μ
-    rest)))
+    rest))))
 
 -- the step without the test of the house rules, for every machine whatsoever
 unfoldable pub ruleOf : Machine → Op → Answered

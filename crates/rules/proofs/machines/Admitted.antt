@@ -53,9 +53,9 @@ module _ {μ : Machine} {c v at : ℕ} (A : Admitted μ c v at) where
       go (inl e) = rw e refl
       go (inr l) = second-false (hasVid v) (lt-leb v (μ .lcvid) l)
 
-  pub admitted : (r : Answered) → checked μ c v at r ≡ r
+  pub admitted : μ .lcvid < vids μ → (r : Answered) → checked μ c v at r ≡ r
   unfolding checked
-  admitted r = rw (passes-3, passes-4, passes-6, passes-7)
+  admitted i r = rw (lt-leb (vids μ) (μ .lcvid) i, passes-3, passes-4, passes-6, passes-7)
 
 -- ---- a refused step hands the machine back unchanged, whatever the machine
 
@@ -84,7 +84,7 @@ module _ (μ : Machine) where
   checks : (c v at : ℕ) (r : Answered) → Unchanged μ r → Unchanged μ (checked μ c v at r)
   unfolding checked
   checks c v at r h =
-      refuses (leb (μ .count) c) _ _ (refuses (ltb lastAddress at) _ _ (refuses (leb (vids μ) v) _ _ (refuses (hasVid v && leb v (μ .lcvid)) _ r h)))
+      refuses (leb (vids μ) (μ .lcvid)) _ _ (refuses (leb (μ .count) c) _ _ (refuses (ltb lastAddress at) _ _ (refuses (leb (vids μ) v) _ _ (refuses (hasVid v && leb v (μ .lcvid)) _ r h))))
 
   load-unchanged : (vid : Bool) (c a x i : ℕ) → Unchanged μ (loadOf μ vid c a x i)
   load-unchanged vid c a x i = load-cases (Unchanged μ) μ vid c a x i (unfold isRefused in record {

@@ -182,7 +182,7 @@ module _ {μ : Machine} (s : SoundMachine (vids μ) μ) where
   checked-ok : (op : Op) (c v at : ℕ) (r : Answered)
       → (leb (μ .count) c ≡ false → ltb lastAddress at ≡ false → leb (vids μ) v ≡ false → (hasVid v && leb v (μ .lcvid)) ≡ false → StepOk μ op r) → StepOk μ op (checked μ c v at r)
   unfolding checked
-  checked-ok op c v at r h = unless (leb (μ .count) c) _ op _ (λ h1. unless (ltb lastAddress at) _ op _ (λ h2. unless (leb (vids μ) v) _ op _ (λ h3. unless (hasVid v && leb v (μ .lcvid)) _ op r (λ h4. h h1 h2 h3 h4))))
+  checked-ok op c v at r h = unless (leb (vids μ) (μ .lcvid)) _ op _ (λ h0. unless (leb (μ .count) c) _ op _ (λ h1. unless (ltb lastAddress at) _ op _ (λ h2. unless (leb (vids μ) v) _ op _ (λ h3. unless (hasVid v && leb v (μ .lcvid)) _ op r (λ h4. h h1 h2 h3 h4)))))
 
   -- ---- the others
 
