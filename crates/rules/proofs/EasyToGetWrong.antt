@@ -86,10 +86,13 @@ module _ (x m : ℕ) where
 
   -- where every S-S with that m of x is among the lines that drop
   drop-unshared : (t : Pos → Line → Bool) (μ : Machine) → ((q : Pos) (l : Line) → isShare x m l ≡ true → t q l ≡ true) → (q : Pos) → isShare x m (at (drop t μ) q) ≡ false
-  drop-unshared t μ k q = by-test (t q (at μ q)) (λ i. rw (drop-gone t μ q i) empty-unshared) (λ i. rw (drop-stays t μ q i) (by-test (isShare x m (at μ q)) (λ j. absurd (not-both (k q (at μ q) j) i)) (λ j. j)))
+  drop-unshared t μ k q =
+      by-test (t q (at μ q)) (λ i. rw (drop-gone t μ q i) empty-unshared) (λ i. rw (drop-stays t μ q i)
+      (by-test (isShare x m (at μ q)) (λ j. absurd (not-both (k q (at μ q) j) i)) (λ j. j)))
 
 -- after a store over an owner no S-S with the owner's m is left at that address
-pub store-drops-shares : (μ : Machine) → Sized μ → House μ → (vid : Bool) (c a x : ℕ) (d : Data) → μ .lcvid ≤ a → (o : Pos) → isOwner x a (at μ o) ≡ true → storeOf μ vid c a x d .answer ≡ Done
+pub store-drops-shares : (μ : Machine) → Sized μ → House μ → (vid : Bool) (c a x : ℕ) (d : Data) → μ .lcvid ≤ a → (o : Pos) → isOwner x a (at μ o) ≡ true
+    → storeOf μ vid c a x d .answer ≡ Done
     → (q : Pos) → isShare x (at μ o .m) (at (storeOf μ vid c a x d .machine) q) ≡ false
 store-drops-shares μ z h vid c a x d up o is = store-cases P μ vid c a x d (record {
   misspec = λ p i e. not-done Misspec (unfold isDone in refl) e;
@@ -115,7 +118,8 @@ store-drops-shares μ z h vid c a x d up o is = store-cases P μ vid c a x d (re
 
 -- ---- "Letting a store past when a = m but h > a: a later transaction has read the word."
 
-pub later-read-misspeculates : (μ : Machine) → Sized μ → House μ → (c v at₀ w : ℕ) → Admitted μ c v at₀ → μ .lcvid < v → (o : Pos) → Lives μ (lineOf at₀) isSM o → at μ o .m ≡ v → v < at μ o .h → stepOf μ (Store c v at₀ w) .answer ≡ Misspec
+pub later-read-misspeculates : (μ : Machine) → Sized μ → House μ → (c v at₀ w : ℕ) → Admitted μ c v at₀ → μ .lcvid < v → (o : Pos) → Lives μ (lineOf at₀) isSM o
+    → at μ o .m ≡ v → v < at μ o .h → stepOf μ (Store c v at₀ w) .answer ≡ Misspec
 later-read-misspeculates μ z h c v at₀ w A new o l own read-later =
     rw (store-is-rule μ z h c v at₀ w A) (unfold storeOf in rw (has v new, acts v new) (go _ (find (λ p k. isOwner (lineOf at₀) v k) μ) refl))
   where
@@ -127,7 +131,12 @@ later-read-misspeculates μ z h c v at₀ w A new o l own read-later =
     acts (suc v) i = refl
 
     is : isOwner (lineOf at₀) v (at μ o) ≡ true
-    is = owner-test (lineOf at₀) v (at μ o) .when (record { owning = state-rule isSM owns refl (at μ o .state) (l .kind); at = l .here; hit = top-hits v (at μ o) (state-rule isSM top refl (at μ o .state) (l .kind)) (omega arith) })
+    is =
+        owner-test (lineOf at₀) v (at μ o) .when (record {
+          owning = state-rule isSM owns refl (at μ o .state) (l .kind);
+          at = l .here;
+          hit = top-hits v (at μ o) (state-rule isSM top refl (at μ o .state) (l .kind)) (omega arith);
+        })
 
     judged : misspeculates v (at μ o) ≡ true
     judged = unfold misspeculates in rw (state-not isSM isSO refl (at μ o .state) (l .kind), lt-ltb v (at μ o .h) read-later)
@@ -138,18 +147,28 @@ later-read-misspeculates μ z h c v at₀ w A new o l own read-later =
 
 -- ---- "Treating a settled S-M as clean at eviction. Its word is lost."
 
-module _ (μ : Machine) (z : Sized μ) (h : House μ) (c t : ℕ) (in-use : c < μ .count) (slot : t ≤ 15) (state : isSM (at μ (pos c t) .state) ≡ true) (settled : at μ (pos c t) .h ≤ μ .lcvid) where
+module _ (μ : Machine) (z : Sized μ) (h : House μ) (c t : ℕ) (in-use : c < μ .count) (slot : t ≤ 15) (state : isSM (at μ (pos c t) .state) ≡ true)
+    (settled : at μ (pos c t) .h ≤ μ .lcvid) where
   abbrev p : Pos
   p = pos c t
 
   evicted : evictOf μ p ≡ gives Done (writeBack p μ (withShares μ p))
-  evicted = unfold evictOf settledOut dead in rw (state-not isSM ranged refl (at μ p .state) state, state-not isSM spare refl (at μ p .state) state, state-not isSM dirty refl (at μ p .state) state, state-rule isSM top refl (at μ p .state) state, le-leb (at μ p .h) (μ .lcvid) settled, state)
+  evicted =
+      unfold evictOf settledOut dead in rw (
+        state-not isSM ranged refl (at μ p .state) state,
+        state-not isSM spare refl (at μ p .state) state,
+        state-not isSM dirty refl (at μ p .state) state,
+        state-rule isSM top refl (at μ p .state) state,
+        le-leb (at μ p .h) (μ .lcvid) settled,
+        state,
+      )
 
   step-evicts : stepOf μ (Evict c t) ≡ gives Done (writeBack p μ (withShares μ p))
   step-evicts = rule-is-step μ z h (Evict c t) ∙ unfold ruleOf in rw (lt-leb (μ .count) c in-use, le-ltb 15 t slot, state-not isSM isI refl (at μ p .state) state) evicted
 
   pub settled-word-reaches-memory : (stepOf μ (Evict c t) .answer ≡ Done) × (memoryAt (stepOf μ (Evict c t) .machine) (at μ p .address) ≡ at μ p .word)
-  settled-word-reaches-memory = rw step-evicts (refl, write-memory (withShares μ p) (at μ p .address) (at μ p .word) (unfold withShares put drop change in omega (arith, h .addresses p, z .words)))
+  settled-word-reaches-memory =
+      rw step-evicts (refl, write-memory (withShares μ p) (at μ p .address) (at μ p .word) (unfold withShares put drop change in omega (arith, h .addresses p, z .words)))
 
   abbrev ν : Machine
   ν = stepOf μ (Evict c t) .machine

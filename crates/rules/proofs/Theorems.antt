@@ -66,7 +66,8 @@ pub load-returns : (μ : Machine) → Sized μ → House μ → (c v at : ℕ) �
     → (stepOf μ (Load c v at) .answer ≡ Value (wordView μ at (actsWith (μ .lcvid) v))) ⊎ (stepOf μ (Load c v at) .answer ≡ Refused NoRoom)
 load-returns μ z h c v at A = rw (load-is-rule μ z h c v at A) (go _ (load-outcome (house-sound z h) c v at (passes-3 A) (passes-4 A) (passes-6 A) (passes-7 A)))
   where
-    go : (r : Answered) → LoadOutcome (vids μ) μ (actsWith (μ .lcvid) v) (lineOf at) (wordOf at) r → (r .answer ≡ Value (wordView μ at (actsWith (μ .lcvid) v))) ⊎ (r .answer ≡ Refused NoRoom)
+    go : (r : Answered) → LoadOutcome (vids μ) μ (actsWith (μ .lcvid) v) (lineOf at) (wordOf at) r
+        → (r .answer ≡ Value (wordView μ at (actsWith (μ .lcvid) v))) ⊎ (r .answer ≡ Refused NoRoom)
     go r (returns d ν e K m) = inl (ap (λ (d : Data). Value (read d (wordOf at))) e)
     go r no-room = inr refl
 

@@ -32,7 +32,11 @@ module _ {N : ℕ} {f g : Pos → Line} {lc x : ℕ} {w : Data} (s : GoodAt N f 
       (λ i. by-test (owns (f p .state) && hits lc (f p))
       (λ j. let e : g p ≡ settled (f p) = is p ∙ rw (i, j) in
       let t = hits-test lc (f p) .says (right (owns (f p .state)) (hits lc (f p)) j) in
-      set (record { here = record { alive = record { some = state-not spec isI refl (f p .state) i; fresh = t .until }; at = rw e at (h .at) }; owning = left (owns (f p .state)) (hits lc (f p)) j; hit = t }) e)
+      set (record {
+        here = record { alive = record { some = state-not spec isI refl (f p .state) i; fresh = t .until }; at = rw e at (h .at) };
+        owning = left (owns (f p .state)) (hits lc (f p)) j;
+        hit = t;
+      }) e)
       (λ j. let e : g p ≡ empty = is p ∙ rw (i, j) in not-here lc x (rw e at h)))
       (λ i. let e : g p ≡ f p = is p ∙ rw i in kept i e (rw e at h))
 
@@ -89,7 +93,8 @@ module _ {N : ℕ} {f g : Pos → Line} {lc x : ℕ} {w : Data} (s : GoodAt N f 
   pub sees-abort : (a : ℕ) (v : Data) → Sees f lc x w lc v → Sees g lc x w a v
   sees-abort a v (from-owner p o e) =
       let d = sets p o in let i = o .owning in
-      from-plain p (rw d (whole-here lc x (settled (f p)) (state-not owns (λ s. isI (settle s)) refl (f p .state) i) (state-not owns (λ s. ranged (settle s)) refl (f p .state) i) (o .here .at)))
+      from-plain p (rw d (whole-here lc x (settled (f p)) (state-not owns (λ s. isI (settle s)) refl (f p .state) i)
+      (state-not owns (λ s. ranged (settle s)) refl (f p .state) i) (o .here .at)))
       (rw d (state-rule owns (λ s. plain (settle s)) refl (f p .state) i)) (rw d e)
   sees-abort a v (from-plain p h i e) = let d = keeps p (state-not plain spec refl (f p .state) i) in from-plain p (rw d h) (rw d i) (rw d e)
   sees-abort a v (from-memory n e) = from-memory (λ p h. go p (was p h)) e

@@ -130,7 +130,8 @@ module _ {N : ℕ} {f g : Pos → Line} {lc x : ℕ} {w : Data} {n : Pos} (s : G
 -- ---- S beside O and S lines, of which r is one, in other caches
 
 module _ {N : ℕ} {f g : Pos → Line} {lc x : ℕ} {w : Data} {n : Pos} (s : GoodAt N f lc x w) (A : Added f g lc x n) (r : Pos) (hr : Here lc x (f r))
-    (is : g n ≡ line S x 0 0 (f r .word)) (all : (q : Pos) → Here lc x (f q) → (isO (f q .state) || isS (f q .state)) ≡ true) (away : (q : Pos) → Here lc x (f q) → n .cache ≢ q .cache) where
+    (is : g n ≡ line S x 0 0 (f r .word)) (all : (q : Pos) → Here lc x (f q) → (isO (f q .state) || isS (f q .state)) ≡ true)
+    (away : (q : Pos) → Here lc x (f q) → n .cache ≢ q .cache) where
   plain-r : plain (f r .state) ≡ true
   plain-r = state-rule (λ t. isO t || isS t) plain refl (f r .state) (all r hr)
 
@@ -145,7 +146,9 @@ module _ {N : ℕ} {f g : Pos → Line} {lc x : ℕ} {w : Data} {n : Pos} (s : G
   meets-S : Meets g lc x w n (g n)
   meets-S = rw is (record {
     clean = λ i. absurd (false≢true i);
-    shared = λ i. by-test (isO (f r .state)) (λ j. inr (still-there A IsO (r, hr, j))) (λ j. still-beside A (s .sound .meets r hr .shared (state-rule (λ t. (isO t || isS t) && not (isO t)) isS refl (f r .state) (both (all r hr) (neg j)))));
+    shared =
+        λ i. by-test (isO (f r .state)) (λ j. inr (still-there A IsO (r, hr, j)))
+        (λ j. still-beside A (s .sound .meets r hr .shared (state-rule (λ t. (isO t || isS t) && not (isO t)) isS refl (f r .state) (both (all r hr) (neg j)))));
     newest = λ i. absurd (false≢true i);
     lowest = λ i. absurd (false≢true i);
     next = λ i. absurd (false≢true i);
@@ -157,7 +160,8 @@ module _ {N : ℕ} {f g : Pos → Line} {lc x : ℕ} {w : Data} {n : Pos} (s : G
 
 -- ---- E from memory, where no line lives
 
-pub keeps-E : {f g : Pos → Line} {lc x : ℕ} {w : Data} {n : Pos} → Added f g lc x n → ((q : Pos) → Here lc x (f q) → ⊥) → g n ≡ line E x 0 0 w → SoundAt f lc x w → (b : ℕ) → KeepsAt f g lc x b w w
+pub keeps-E : {f g : Pos → Line} {lc x : ℕ} {w : Data} {n : Pos} → Added f g lc x n → ((q : Pos) → Here lc x (f q) → ⊥) → g n ≡ line E x 0 0 w → SoundAt f lc x w
+    → (b : ℕ) → KeepsAt f g lc x b w w
 keeps-E {w = w} A none is s b = keeps-added A b (rw is refl) s (λ q h. absurd (none q h)) (rw is (record {
   clean = λ i. refl;
   shared = λ i. inl refl;

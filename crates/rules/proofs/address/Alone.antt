@@ -26,7 +26,8 @@ module _ {g : Pos → Line} {lc x : ℕ} {w : Data} (n : Pos) (only : (q : Pos) 
           from-owner n (record { here = h; owning = top-owns (g n .state) t; hit = top-hits b (g n) t (omega (arith, l .covers j)) }) refl
 
   -- every number saw its word before, and nothing was marked
-  pub keeps-lone : {f : Pos → Line} (a : ℕ) → ((b : ℕ) (v : Data) → lc ≤ b → Sees f lc x w b v → v ≡ g n .word) → ((b : ℕ) → Mark f lc x b → ⊥) → (top (g n .state) ≡ true → g n .h ≤ a) → KeepsAt f g lc x a w w
+  pub keeps-lone : {f : Pos → Line} (a : ℕ) → ((b : ℕ) (v : Data) → lc ≤ b → Sees f lc x w b v → v ≡ g n .word) → ((b : ℕ) → Mark f lc x b → ⊥)
+      → (top (g n .state) ≡ true → g n .h ≤ a) → KeepsAt f g lc x a w w
   keeps-lone a saw none most = record {
     sound = sound-lone n only l;
     sees = λ b v i k. rw (saw b v i k) (sees-lone b i);

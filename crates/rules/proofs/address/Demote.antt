@@ -105,4 +105,6 @@ module _ {N : ℕ} {f g : Pos → Line} {lc x : ℕ} {w : Data} (s : GoodAt N f 
       sees b v (from-owner p o e) = plain-alone s r p hr (o .here) pr (owns-spec (f p .state) (o .owning))
       sees b v (from-plain p h i e) = from-plain p (new p h) (rw (is p (h .at)) (state-rule plain (λ s. plain (demote s)) refl (f p .state) i)) (rw (is p (h .at)) e)
       sees b v (from-memory n e) =
-          from-memory (λ p h. rw (is p (was p h)) (record { same = λ i. n p (old p h) .same (plain-f p (old p h)); later = λ i. state-never plain (λ s. owns (demote s)) refl (f p .state) (plain-f p (old p h)) i })) e
+          from-memory (λ p h. rw (is p (was p h)) (record
+          { same = λ i. n p (old p h) .same (plain-f p (old p h)); later = λ i. state-never plain (λ s. owns (demote s)) refl (f p .state) (plain-f p (old p h)) i }))
+          e

@@ -61,7 +61,8 @@ keeps-thinned {f} {g} {lc} {x} {w} a T s plains = record {
 
 -- ---- S-S lines drop
 
-pub keeps-shares-gone : {f g : Pos → Line} {lc x : ℕ} {w : Data} (a : ℕ) → ((p : Pos) → (g p ≡ f p) ⊎ ((isSS (f p .state) ≡ true) × (g p ≡ empty))) → SoundAt f lc x w → KeepsAt f g lc x a w w
+pub keeps-shares-gone : {f g : Pos → Line} {lc x : ℕ} {w : Data} (a : ℕ) → ((p : Pos) → (g p ≡ f p) ⊎ ((isSS (f p .state) ≡ true) × (g p ≡ empty))) → SoundAt f lc x w
+    → KeepsAt f g lc x a w w
 keeps-shares-gone {f} {g} {lc} {x} {w} a k s = keeps-thinned a T s (λ p v h i e b. let d = others p i (state-not plain isSS refl) (k p) in from-plain p (rw d h) (rw d i) (rw d e))
   where
     others : (p : Pos) {t : State → Bool} → t (f p .state) ≡ true → ((s : State) → t s ≡ true → isSS s ≡ false) → (g p ≡ f p) ⊎ ((isSS (f p .state) ≡ true) × (g p ≡ empty)) → g p ≡ f p
@@ -83,7 +84,8 @@ module _ {N : ℕ} {f g : Pos → Line} {lc x : ℕ} {w : Data} (s : GoodAt N f 
 
   -- E or S: its word is memory's or that of an O beside it
   pub keeps-spare-gone : (a : ℕ) → (isE (f o .state) || isS (f o .state)) ≡ true → KeepsAt f g lc x a w w
-  keeps-spare-gone a c = keeps-thinned a (record { back = back; stays = λ p h i. rest p (λ e. state-never (λ s. isE s || isS s) wanted refl (f o .state) c (rw e at i)) }) (s .sound) plains
+  keeps-spare-gone a c =
+      keeps-thinned a (record { back = back; stays = λ p h i. rest p (λ e. state-never (λ s. isE s || isS s) wanted refl (f o .state) c (rw e at i)) }) (s .sound) plains
     where
       plain-o : plain (f o .state) ≡ true
       plain-o = state-rule (λ s. isE s || isS s) plain refl (f o .state) c
@@ -93,13 +95,17 @@ module _ {N : ℕ} {f g : Pos → Line} {lc x : ℕ} {w : Data} (s : GoodAt N f 
       word p h = sym (plain-same s o p ho h plain-o)
 
       lost : (v : Data) → v ≡ f o .word → (b : ℕ) → (f o .word ≡ w) ⊎ There f lc x IsO → Sees g lc x w b v
-      lost v e b (inl d) = from-memory (λ p h. let q = back p h in let hp = rw q at h in record { same = λ i. rw q (word p hp ∙ d); later = λ i. plain-alone s o p ho hp plain-o (owns-spec (f p .state) (rw q at i)) }) (e ∙ d)
+      lost v e b (inl d) =
+          from-memory (λ p h. let q = back p h in let hp = rw q at h in record
+          { same = λ i. rw q (word p hp ∙ d); later = λ i. plain-alone s o p ho hp plain-o (owns-spec (f p .state) (rw q at i)) }) (e ∙ d)
       lost v e b (inr (q, hq, i)) =
           let d = rest q (λ r. state-never (λ s. isE s || isS s) isO refl (f o .state) c (rw r at i)) in
           from-plain q (rw d hq) (rw d (state-rule isO plain refl (f q .state) i)) (rw d (e ∙ sym (word q hq)))
 
       unshared : (f o .word ≡ w) ⊎ There f lc x IsO
-      unshared = by-test (isS (f o .state)) (s .sound .meets o ho .shared) (λ i. inl (s .sound .meets o ho .clean (state-rule (λ s. (isE s || isS s) && not (isS s)) (λ s. isE s || isSE s) refl (f o .state) (both c (neg i)))))
+      unshared =
+          by-test (isS (f o .state)) (s .sound .meets o ho .shared) (λ i. inl
+          (s .sound .meets o ho .clean (state-rule (λ s. (isE s || isS s) && not (isS s)) (λ s. isE s || isSE s) refl (f o .state) (both c (neg i)))))
 
       plains : (p : Pos) (v : Data) → Here lc x (f p) → plain (f p .state) ≡ true → v ≡ f p .word → (b : ℕ) → Sees g lc x w b v
       plains p v h i e b = lost v (e ∙ word p h) b unshared
@@ -122,7 +128,8 @@ module _ {N : ℕ} {f g : Pos → Line} {lc x : ℕ} {w : Data} (s : GoodAt N f 
       left : (p : Pos) → Here lc x (g p) → isS (g p .state) ≡ true
       left p h =
           let e = back p h in
-          rw e (states-rule (λ s t. stands s t && dirty s) (λ s t. isS t) refl (f o .state) (f p .state) (both (s .sound .stand o p (λ d. not-here lc x (rw (← d, gone) at h)) ho (rw e at h) .table) c))
+          rw e (states-rule (λ s t. stands s t && dirty s) (λ s t. isS t) refl (f o .state) (f p .state)
+          (both (s .sound .stand o p (λ d. not-here lc x (rw (← d, gone) at h)) ho (rw e at h) .table) c))
 
       only-S : (p : Pos) → Here lc x (g p) → Meets g lc x (f o .word) p (g p)
       only-S p h = record {
@@ -143,7 +150,8 @@ module _ {N : ℕ} {f g : Pos → Line} {lc x : ℕ} {w : Data} (s : GoodAt N f 
       sees b v (from-memory n e) = from-memory (past b) (e ∙ sym (n o ho .same plain-o))
 
   -- a settled S-M or S-E whose S-S lines have dropped: no other line lives, and its word goes to memory (or is there)
-  pub keeps-settled-gone : (a : ℕ) → top (f o .state) ≡ true → f o .h ≤ lc → ((p : Pos) → Here lc x (f p) → isSS (f p .state) ≡ true → f p .m ≢ f o .m) → KeepsAt f g lc x a w (f o .word)
+  pub keeps-settled-gone : (a : ℕ) → top (f o .state) ≡ true → f o .h ≤ lc → ((p : Pos) → Here lc x (f p) → isSS (f p .state) ≡ true → f p .m ≢ f o .m)
+      → KeepsAt f g lc x a w (f o .word)
   keeps-settled-gone a t done unshared = record {
     sound = sound-none none;
     sees = λ b v i k. from-memory (λ p h. absurd (none p h)) (saw b v i k);
@@ -156,7 +164,9 @@ module _ {N : ℕ} {f g : Pos → Line} {lc x : ℕ} {w : Data} (s : GoodAt N f 
       no-SO p h i = omega (arith, so-below s p o h ho i t, s .fits o .newest t, h .alive .fresh (so-ranged (f p .state) i))
 
       owner-o : (q : Pos) → Here lc x (f q) → owns (f q .state) ≡ true → q ≡ o
-      owner-o q h i = by-test (isSO (f q .state)) (λ j. absurd (no-SO q h j)) (λ j. newest-once s q o h ho (state-rule (λ s. owns s && not (isSO s)) top refl (f q .state) (both i (neg j))) t)
+      owner-o q h i =
+          by-test (isSO (f q .state)) (λ j. absurd (no-SO q h j)) (λ j. newest-once s q o h ho
+          (state-rule (λ s. owns s && not (isSO s)) top refl (f q .state) (both i (neg j))) t)
 
       none : (p : Pos) → Here lc x (g p) → ⊥
       none p h =

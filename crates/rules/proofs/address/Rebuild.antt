@@ -61,7 +61,14 @@ owned-like {k = k} {l = l} up i K L o = record {
 
 -- a live line stays one
 pub like-here : {a lc x : ℕ} {k l : Line} → Like a k l → l .address ≡ x → Here lc x k → Here lc x l
-like-here L e h = record { alive = record { some = subst (λ (s : State). isI s ≡ false) (sym (L .state)) (h .alive .some); fresh = λ r. let i = was L ranged r in omega (arith, h .alive .fresh i, L .end i) }; at = e }
+like-here L e h =
+    record {
+      alive = record {
+        some = subst (λ (s : State). isI s ≡ false) (sym (L .state)) (h .alive .some);
+        fresh = λ r. let i = was L ranged r in omega (arith, h .alive .fresh i, L .end i);
+      };
+      at = e;
+    }
 
 -- an owner stays one
 pub owner-like : {a b lc x : ℕ} {f g : Pos → Line} {p : Pos} → Like a (f p) (g p) → Here lc x (g p) → OwnerAt f lc x b p → OwnerAt g lc x b p
@@ -133,7 +140,10 @@ module _ {a : ℕ} {f g : Pos → Line} {lc x : ℕ} (same : SameAt a f g lc x) 
   sees-same b v (from-owner p o e) = let (h, L) = same .there p (o .here) in from-owner p (owner-like L h o) (e ∙ sym (L .word))
   sees-same b v (from-plain p h i e) = let (h′, L) = same .there p h in from-plain p h′ (still L plain i) (e ∙ sym (L .word))
   sees-same b v (from-memory n e) =
-      from-memory (λ p h. let (i, L) = same .back p h in record { same = λ c. L .word ∙ n p i .same (was L plain c); later = λ o. omega (arith, n p i .later (was L owns o), L .same-m) }) e
+      from-memory (λ p h. let (i, L) = same .back p h in record {
+        same = λ c. L .word ∙ n p i .same (was L plain c);
+        later = λ o. omega (arith, n p i .later (was L owns o), L .same-m);
+      }) e
 
   pub mark-same : (b : ℕ) → Mark f lc x b → Mark g lc x b
   mark-same b (p, h, (t, i)) = let (h′, L) = same .there p h in (p, h′, (still L top t, omega (arith, i, L .more)))

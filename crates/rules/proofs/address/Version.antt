@@ -75,7 +75,8 @@ module _ {g : Pos → Line} {lc x a : ℕ} (w : Data) {v : Data} {n : Pos} (new 
       go p h (no e) = meets-old p e h
 
   -- the store, where below a nothing that was seen has changed, and nothing was marked above a
-  writes-version : {f : Pos → Line} → ((b : ℕ) → lc < b → Mark f lc x b → b ≤ a) → ((b : ℕ) (u : Data) → lc ≤ b → b < a → Sees f lc x w b u → Sees g lc x w b u) → WritesAt f g lc x a w v
+  writes-version : {f : Pos → Line} → ((b : ℕ) → lc < b → Mark f lc x b → b ≤ a) → ((b : ℕ) (u : Data) → lc ≤ b → b < a → Sees f lc x w b u → Sees g lc x w b u)
+      → WritesAt f g lc x a w v
   writes-version above before = record {
     sound = sound-version;
     above = above;
@@ -91,7 +92,8 @@ module _ {g : Pos → Line} {lc x a : ℕ} (w : Data) {v : Data} {n : Pos} (new 
 
 -- ---- where the newest version so far is at o, none of its S-S lines is left, and it has not been read above a
 
-module _ {N : ℕ} {f g : Pos → Line} {lc x : ℕ} {w : Data} (s : GoodAt N f lc x w) (a : ℕ) (v : Data) (new : lc < a) (o n : Pos) (ho : Here lc x (f o)) (t : top (f o .state) ≡ true) (unread : f o .h ≤ a)
+module _ {N : ℕ} {f g : Pos → Line} {lc x : ℕ} {w : Data} (s : GoodAt N f lc x w) (a : ℕ) (v : Data) (new : lc < a) (o n : Pos) (ho : Here lc x (f o))
+    (t : top (f o .state) ≡ true) (unread : f o .h ≤ a)
     (unshared : (p : Pos) → Here lc x (f p) → isSS (f p .state) ≡ true → f p .m ≢ f o .m) (is : g n ≡ version x a v) (rest : (p : Pos) → p ≢ o → p ≢ n → g p ≡ f p) where
   above : (b : ℕ) → lc < b → Mark f lc x b → b ≤ a
   above b i k = omega (arith, mark-on s o ho t b k)
@@ -176,7 +178,9 @@ module _ {N : ℕ} {f g : Pos → Line} {lc x : ℕ} {w : Data} (s : GoodAt N f 
         before b u i j (from-owner p O e) = go (pos-dec p o)
           where
             go : Dec (p ≡ o) → Sees g lc x w b u
-            go (yes d) = from-owner o (record { here = here-o; owning = rw shut refl; hit = rw shut (record { is = refl; from = rw d at (O .hit .from); until = λ r. j }) }) (rw shut (e ∙ rw d refl))
+            go (yes d) =
+                from-owner o (record { here = here-o; owning = rw shut refl; hit = rw shut (record { is = refl; from = rw d at (O .hit .from); until = λ r. j }) })
+                (rw shut (e ∙ rw d refl))
             go (no d) = let c = stays p d (O .here) in from-owner p (record { here = rw c (O .here); owning = rw c (O .owning); hit = rw c (O .hit) }) (rw c e)
         before b u i j (from-plain p h k e) = plain-alone s p o h ho k (top-spec (f o .state) t)
         before b u i j (from-memory k e) = from-memory (λ p h. passes p h (pos-dec p o) (pos-dec p n)) e
@@ -234,11 +238,13 @@ module _ {N : ℕ} {f g : Pos → Line} {lc x : ℕ} {w : Data} (s : GoodAt N f 
 
 -- ---- no version: all lines have dropped, and S-O (0, a) is placed at k with the word u that every number saw
 
-pub writes-first : {f g : Pos → Line} {lc x : ℕ} {w : Data} (a : ℕ) (u v : Data) → lc < a → (k n : Pos) → k ≢ n → g k ≡ line SO x 0 a u → g n ≡ version x a v → ((p : Pos) → Here lc x (g p) → (p ≡ k) ⊎ (p ≡ n))
+pub writes-first : {f g : Pos → Line} {lc x : ℕ} {w : Data} (a : ℕ) (u v : Data) → lc < a → (k n : Pos) → k ≢ n → g k ≡ line SO x 0 a u → g n ≡ version x a v
+    → ((p : Pos) → Here lc x (g p) → (p ≡ k) ⊎ (p ≡ n))
     → ((b : ℕ) (d : Data) → lc ≤ b → Sees f lc x w b d → d ≡ u) → ((b : ℕ) → Mark f lc x b → ⊥) → WritesAt f g lc x a w v
 writes-first {f} {g} {lc} {x} {w} a u v new k n two at-k is only saw none =
     writes-version w new is older (λ b i m. absurd (none b m))
-    (λ b d i j z. rw (saw b d i z) (from-owner k (record { here = here-k; owning = rw at-k refl; hit = rw at-k (record { is = refl; from = omega arith; until = λ r. j }) }) (rw at-k refl)))
+    (λ b d i j z. rw (saw b d i z) (from-owner k
+    (record { here = here-k; owning = rw at-k refl; hit = rw at-k (record { is = refl; from = omega arith; until = λ r. j }) }) (rw at-k refl)))
   where
     here-k : Here lc x (g k)
     here-k = rw at-k (record { alive = record { some = refl; fresh = λ r. new }; at = refl })

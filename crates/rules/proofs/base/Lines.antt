@@ -67,13 +67,21 @@ pub record Hits (a : ℕ) (l : Line) : Type 0 where
 
 pub hits-test : (a : ℕ) (l : Line) → Decides (hits a l) (Hits a l)
 unfolding hits
-hits-test a l = record { says = λ h. says (leb-true (l .m) a (left (leb (l .m) a) _ h)) (right (leb (l .m) a) (top (l .state) || (ranged (l .state) && ltb a (l .h))) h); when = λ h. both (le-leb (l .m) a (h .from)) (when h) }
+hits-test a l =
+    record {
+      says = λ h. says (leb-true (l .m) a (left (leb (l .m) a) _ h)) (right (leb (l .m) a) (top (l .state) || (ranged (l .state) && ltb a (l .h))) h);
+      when = λ h. both (le-leb (l .m) a (h .from)) (when h);
+    }
   where
     says : l .m ≤ a → (top (l .state) || (ranged (l .state) && ltb a (l .h))) ≡ true → Hits a l
     says f h =
         by-test (top (l .state)) (λ t. record { is = top-spec (l .state) t; from = f; until = λ r. top-not-ranged (l .state) t r })
         (λ t. let k : (ranged (l .state) && ltb a (l .h)) ≡ true = simp t at h in
-        record { is = state-rule ranged spec refl (l .state) (left (ranged (l .state)) (ltb a (l .h)) k); from = f; until = λ r. ltb-true a (l .h) (right (ranged (l .state)) (ltb a (l .h)) k) })
+        record {
+          is = state-rule ranged spec refl (l .state) (left (ranged (l .state)) (ltb a (l .h)) k);
+          from = f;
+          until = λ r. ltb-true a (l .h) (right (ranged (l .state)) (ltb a (l .h)) k);
+        })
 
     when : Hits a l → (top (l .state) || (ranged (l .state) && ltb a (l .h))) ≡ true
     when h =
@@ -101,7 +109,9 @@ pub record Owner (x a : ℕ) (l : Line) : Type 0 where
 
 pub owner-test : (x a : ℕ) (l : Line) → Decides (isOwner x a l) (Owner x a l)
 unfolding isOwner
-owner-test x a l = as-test (and-test (is-test (owns (l .state))) (and-test (eq-test (l .address) x) (hits-test a l))) (λ h. record { owning = h .0; at = h .1 .0; hit = h .1 .1 }) (λ h. (h .owning, (h .at, h .hit)))
+owner-test x a l =
+    as-test (and-test (is-test (owns (l .state))) (and-test (eq-test (l .address) x) (hits-test a l))) (λ h. record { owning = h .0; at = h .1 .0; hit = h .1 .1 })
+    (λ h. (h .owning, (h .at, h .hit)))
 
 -- it lives, as a is not below LCVID
 pub owner-here : (lc x a : ℕ) (l : Line) → lc ≤ a → Owner x a l → Here lc x l

@@ -31,7 +31,19 @@ abbrev number : State → ℕ
 number = elim [ I ↦ 0 | M ↦ 1 | O ↦ 2 | E ↦ 3 | S ↦ 4 | SM ↦ 5 | SO ↦ 6 | SE ↦ 7 | SS ↦ 8 ]
 
 number-small : (s : State) → number s < 9
-number-small s = elim s [ I ↦ omega arith | M ↦ omega arith | O ↦ omega arith | E ↦ omega arith | S ↦ omega arith | SM ↦ omega arith | SO ↦ omega arith | SE ↦ omega arith | SS ↦ omega arith ]
+number-small s =
+    elim s [
+      | I ↦ omega arith
+      | M ↦ omega arith
+      | O ↦ omega arith
+      | E ↦ omega arith
+      | S ↦ omega arith
+      | SM ↦ omega arith
+      | SO ↦ omega arith
+      | SE ↦ omega arith
+      | SS ↦ omega
+          arith
+    ]
 
 at-number : (s : State) → getD states (number s) I ≡ s
 at-number s = elim s [ I ↦ refl | M ↦ refl | O ↦ refl | E ↦ refl | S ↦ refl | SM ↦ refl | SO ↦ refl | SE ↦ refl | SS ↦ refl ]

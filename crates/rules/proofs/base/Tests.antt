@@ -52,7 +52,9 @@ pub as-test : {a : Bool} {P Q : Type 0} → Decides a P → (P → Q) → (Q →
 as-test p f g = record { says = λ h. f (p .says h); when = λ h. p .when (g h) }
 
 pub pos-test : (p q : Pos) → Decides (samePos p q) (p ≡ q)
-pos-test p q = as-test (and-test (eq-test (p .cache) (q .cache)) (eq-test (p .slot) (q .slot))) (λ h. λ i. record { cache = h .0 i; slot = h .1 i }) (λ e. (λ i. e i .cache, λ i. e i .slot))
+pos-test p q =
+    as-test (and-test (eq-test (p .cache) (q .cache)) (eq-test (p .slot) (q .slot))) (λ h. λ i. record { cache = h .0 i; slot = h .1 i })
+    (λ e. (λ i. e i .cache, λ i. e i .slot))
 
 pub data-test : (d e : Data) → Decides (sameData d e) (d ≡ e)
 unfolding sameData

@@ -84,7 +84,8 @@ module _ (μ : Machine) where
   checks : (c v at : ℕ) (r : Answered) → Unchanged μ r → Unchanged μ (checked μ c v at r)
   unfolding checked
   checks c v at r h =
-      refuses (leb (vids μ) (μ .lcvid)) _ _ (refuses (leb (μ .count) c) _ _ (refuses (ltb lastAddress at) _ _ (refuses (leb (vids μ) v) _ _ (refuses (hasVid v && leb v (μ .lcvid)) _ r h))))
+      refuses (leb (vids μ) (μ .lcvid)) _ _ (refuses (leb (μ .count) c) _ _
+      (refuses (ltb lastAddress at) _ _ (refuses (leb (vids μ) v) _ _ (refuses (hasVid v && leb v (μ .lcvid)) _ r h))))
 
   load-unchanged : (vid : Bool) (c a x i : ℕ) → Unchanged μ (loadOf μ vid c a x i)
   load-unchanged vid c a x i = load-cases (Unchanged μ) μ vid c a x i (unfold isRefused in record {

@@ -43,7 +43,8 @@ module _ (P : Answered → Type 0) (μ : Machine) (r : Answer) (c : ℕ) where
       go Full q = none
 
   pub place-two-cases : (k l : Line) (δ : Machine)
-      → ((e f : ℕ) → freeSlot δ c ≡ Slot e → freeSlot (put (pos c e) k δ) c ≡ Slot f → P (gives r (put (pos c f) l (put (pos c e) k δ)))) → P (gives (Refused NoRoom) μ) → P (placeTwo μ r c k l δ)
+      → ((e f : ℕ) → freeSlot δ c ≡ Slot e → freeSlot (put (pos c e) k δ) c ≡ Slot f → P (gives r (put (pos c f) l (put (pos c e) k δ)))) → P (gives (Refused NoRoom) μ) →
+      P (placeTwo μ r c k l δ)
   unfolding placeTwo
   place-two-cases k l δ some none = go (freeSlot δ c) refl
     where
@@ -68,8 +69,10 @@ pub record LoadBranches (μ : Machine) (vid : Bool) (c a x i : ℕ) (P : Answere
   -- plain, otherwise: the asker holds a plain line; another cache does; none
   pub held : vid ≡ false → Unowned μ x a → (q : Pos) → isPlain x (at μ q) ≡ true → P (gives (valueOf (at μ q) i) μ)
   pub shared : vid ≡ false → Unowned μ x a → ((p : Pos) → (eqb (p .cache) c && isPlain x (at μ p)) ≡ false) → (q : Pos) → isPlain x (at μ q) ≡ true
-      → (e : ℕ) → freeSlot (change (λ p l. demoteLine x l) μ) c ≡ Slot e → P (gives (valueOf (at μ q) i) (put (pos c e) (line S x 0 0 (at μ q .word)) (change (λ p l. demoteLine x l) μ)))
-  pub fetched : vid ≡ false → Unowned μ x a → ((p : Pos) → isPlain x (at μ p) ≡ false) → (e : ℕ) → freeSlot μ c ≡ Slot e → P (gives (Value (read (memoryAt μ x) i)) (put (pos c e) (line E x 0 0 (memoryAt μ x)) μ))
+      → (e : ℕ) → freeSlot (change (λ p l. demoteLine x l) μ) c ≡ Slot e → P (gives (valueOf (at μ q) i)
+      (put (pos c e) (line S x 0 0 (at μ q .word)) (change (λ p l. demoteLine x l) μ)))
+  pub fetched : vid ≡ false → Unowned μ x a → ((p : Pos) → isPlain x (at μ p) ≡ false) → (e : ℕ) → freeSlot μ c ≡ Slot e
+      → P (gives (Value (read (memoryAt μ x) i)) (put (pos c e) (line E x 0 0 (memoryAt μ x)) μ))
   pub full : P (gives (Refused NoRoom) μ)
 
 pub load-cases : (P : Answered → Type 0) (μ : Machine) (vid : Bool) (c a x i : ℕ) → LoadBranches μ vid c a x i P → P (loadOf μ vid c a x i)
@@ -92,7 +95,9 @@ load-cases P μ vid c a x i B = go (find (λ p l. isOwner x a l) μ) refl
 
     plainly : Unowned μ x a → vid ≡ false → (r : Found) → find (λ p l. eqb (p .cache) c && isPlain x l) μ ≡ r → P (loadPlain μ c x i r)
     plainly none v (At q) e = B .held v none q (right (eqb (q .cache) c) (isPlain x (at μ q)) (find-some (λ p l. eqb (p .cache) c && isPlain x l) μ q e))
-    plainly none v Nowhere e = cached none v (find-none (λ p l. eqb (p .cache) c && isPlain x l) μ (λ q. by-test (eqb (q .cache) c) (λ j. rw (j, empty-plain x)) (λ j. rw j)) e) (find (λ p l. isPlain x l) μ) refl
+    plainly none v Nowhere e =
+        cached none v (find-none (λ p l. eqb (p .cache) c && isPlain x l) μ (λ q. by-test (eqb (q .cache) c) (λ j. rw (j, empty-plain x)) (λ j. rw j)) e)
+        (find (λ p l. isPlain x l) μ) refl
 
     go : (r : Found) → find (λ p l. isOwner x a l) μ ≡ r → P (loadBy μ vid c a x i r)
     go (At o) e = owned o (find-some (λ p l. isOwner x a l) μ o e)
@@ -141,7 +146,8 @@ store-cases P μ vid c a x d B = by-test vid (λ v. rw v (with-vid v (find (λ p
     plainly : vid ≡ false → (r : Found) → find (λ p l. isOwner x a l) μ ≡ r → P (storePlainBy μ c x d r)
     plainly v (At o) e =
         let is = find-some (λ p l. isOwner x a l) μ o e in
-        by-test (misspeculatesPlain μ (at μ o)) (λ n. rw n (B .misspec o is)) (λ n. rw n (unfold storeM in place-cases P μ Done c _ (drop (isOf x) μ) (B .plain-owned v o is n) (B .full)))
+        by-test (misspeculatesPlain μ (at μ o)) (λ n. rw n (B .misspec o is))
+        (λ n. rw n (unfold storeM in place-cases P μ Done c _ (drop (isOf x) μ) (B .plain-owned v o is n) (B .full)))
     plainly v Nowhere e = unfold storeM in place-cases P μ Done c _ (drop (isOf x) μ) (B .plain-unowned v (find-none (λ p l. isOwner x a l) μ (λ q. empty-owner x a) e)) (B .full)
 
 -- ---- evict a slot that is not empty
@@ -160,7 +166,8 @@ evict-cases P μ p some B =
     (λ d. by-test (spare (at μ p .state)) (λ c. rw (d, c) (B .spare-line (alive d) c))
     (λ c. by-test (dirty (at μ p .state)) (λ e. rw (d, c, e) (B .dirty-line (alive d) e))
     (λ e. by-test (top (at μ p .state) && leb (at μ p .h) (μ .lcvid))
-    (λ t. rw (d, c, e, t) (B .settled (alive d) (left (top (at μ p .state)) (leb (at μ p .h) (μ .lcvid)) t) (leb-true (at μ p .h) (μ .lcvid) (right (top (at μ p .state)) (leb (at μ p .h) (μ .lcvid)) t))))
+    (λ t. rw (d, c, e, t) (B .settled (alive d) (left (top (at μ p .state)) (leb (at μ p .h) (μ .lcvid)) t)
+    (leb-true (at μ p .h) (μ .lcvid) (right (top (at μ p .state)) (leb (at μ p .h) (μ .lcvid)) t))))
     (λ t. rw (d, c, e, t) (B .over)))))
   where
     alive : dead (μ .lcvid) (at μ p) ≡ false → Live (μ .lcvid) (at μ p)

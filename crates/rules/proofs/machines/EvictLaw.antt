@@ -60,7 +60,9 @@ module _ {N : ℕ} {μ : Machine} (s : Sound N μ) (p : Pos) (some : isI (at μ 
   clear a K = local-keeps s local fits a (put-memory μ p empty x) K
 
   clear-back : (a : ℕ) → x < length (μ .memory) → KeepsAt (at μ) (at ν) (μ .lcvid) x a (memoryAt μ x) (at μ p .word) → Keeps N μ (writeBack p μ ν) a x
-  clear-back a low K = local-keeps s (local-trans local (write-local ν x (at μ p .word))) (λ q. rw (write-lines ν x (at μ p .word) q) (fits q)) a (write-memory ν x (at μ p .word) (unfold put in low)) (unfold write at in K)
+  clear-back a low K =
+      local-keeps s (local-trans local (write-local ν x (at μ p .word))) (λ q. rw (write-lines ν x (at μ p .word) q) (fits q)) a
+      (write-memory ν x (at μ p .word) (unfold put in low)) (unfold write at in K)
 
   dead-law : dead (μ .lcvid) (at μ p) ≡ true → Keeps N μ ν (μ .lcvid) x
   dead-law d = clear (μ .lcvid) (keeps-same same (s .each x))
@@ -69,7 +71,11 @@ module _ {N : ℕ} {μ : Machine} (s : Sound N μ) (p : Pos) (some : isI (at μ 
       not-p q h e = not-both (live-test (μ .lcvid) (at μ p) .when (rw e at (h .alive))) (unfold live in rw (some, d) refl)
 
       same : SameAt (μ .lcvid) (at μ) (at ν) (μ .lcvid) x
-      same = record { there = λ q h. let e = rest q (not-p q h) in (rw e h, like-same (μ .lcvid) e); back = λ q h. let e = rest q (λ e. not-here (μ .lcvid) x (rw (e, gone) at h)) in (rw e at h, like-same (μ .lcvid) e) }
+      same =
+          record {
+            there = λ q h. let e = rest q (not-p q h) in (rw e h, like-same (μ .lcvid) e);
+            back = λ q h. let e = rest q (λ e. not-here (μ .lcvid) x (rw (e, gone) at h)) in (rw e at h, like-same (μ .lcvid) e);
+          }
 
   module _ (alive : Live (μ .lcvid) (at μ p)) where
     here : Here (μ .lcvid) x (at μ p)
@@ -119,10 +125,15 @@ module _ {N : ℕ} {μ : Machine} (s : Sound N μ) (p : Pos) (alive : Live (μ .
   bare : (q : Pos) → Here (δ .lcvid) z (at δ q) → isSS (at δ q .state) ≡ true → at δ q .m ≢ at δ p .m
   bare q h i j = by-test (isShare y (at μ p .m) (at μ q)) (λ k. not-here (δ .lcvid) z (rw (drop-gone shared μ q k) at h))
       (λ k. let e = drop-stays shared μ q k in
-      not-both (share-test y (at μ p .m) (at μ q) .when (rw e at i, (sym (ap (λ (l : Line). l .address) e) ∙ h .at ∙ same-address, sym (ap (λ (l : Line). l .m) e) ∙ j ∙ ap (λ (l : Line). l .m) same-p))) k)
+      not-both (share-test y (at μ p .m) (at μ q) .when (
+        rw e at i,
+        (sym (ap (λ (l : Line). l .address) e) ∙ h .at ∙ same-address, sym (ap (λ (l : Line). l .m) e) ∙ j ∙ ap (λ (l : Line). l .m) same-p),
+      )) k)
 
   settled-gone : KeepsAt (at δ) (at (put p empty δ)) (δ .lcvid) z (μ .lcvid) (memoryAt δ z) (at δ p .word)
-  settled-gone = keeps-settled-gone (good (dropped .sound) z) p here-p (gone (dropped .sound) p some-p) (rest (dropped .sound) p some-p) (μ .lcvid) (rw same-p t) (subst₂ (λ (l : Line) (lc : ℕ). l .h ≤ lc) (sym same-p) (sym (dropped .last)) done) bare
+  settled-gone =
+      keeps-settled-gone (good (dropped .sound) z) p here-p (gone (dropped .sound) p some-p) (rest (dropped .sound) p some-p) (μ .lcvid) (rw same-p t)
+      (subst₂ (λ (l : Line) (lc : ℕ). l .h ≤ lc) (sym same-p) (sym (dropped .last)) done) bare
 
   -- its word goes to memory
   settled-M-law : y < length (μ .memory) → Keeps N μ (writeBack p μ (withShares μ p)) (μ .lcvid) y
@@ -142,7 +153,9 @@ module _ {N : ℕ} {μ : Machine} (s : Sound N μ) (p : Pos) (alive : Live (μ .
   -- S-M writes it, and S-E has it there
   settled-law : y < length (μ .memory) → Keeps N μ (settledOut μ p) (μ .lcvid) y
   unfolding settledOut
-  settled-law low = by-test (isSM (at μ p .state)) (λ i. rw i (settled-M-law low)) (λ i. rw i (settled-E-law (state-rule (λ s. top s && not (isSM s)) isSE refl (at μ p .state) (both t (neg i)))))
+  settled-law low =
+      by-test (isSM (at μ p .state)) (λ i. rw i (settled-M-law low)) (λ i. rw i
+      (settled-E-law (state-rule (λ s. top s && not (isSM s)) isSE refl (at μ p .state) (both t (neg i)))))
 
 -- ---- the law of evictions
 

@@ -57,7 +57,8 @@ put-framed μ p l c h F = record {
     go q (inr e) = rw e (f .addresses q)
 
 -- a change that keeps empty slots empty, and of every other line empties it or keeps its address
-change-framed : {n : ℕ} (k : Pos → Line → Line) (μ : Machine) → ((p : Pos) → k p empty ≡ empty) → ((p : Pos) (l : Line) → (k p l ≡ empty) ⊎ (k p l .address ≡ l .address)) → Framed n μ → Framed n (change k μ)
+change-framed : {n : ℕ} (k : Pos → Line → Line) (μ : Machine) → ((p : Pos) → k p empty ≡ empty) → ((p : Pos) (l : Line) → (k p l ≡ empty) ⊎ (k p l .address ≡ l .address))
+    → Framed n μ → Framed n (change k μ)
 change-framed k μ e t F = record {
   frame = record {
     caches = change-width k μ ∙ f .caches;
@@ -127,7 +128,9 @@ module _ {n : ℕ} {μ : Machine} (F : Framed n μ) where
 
   read-framed : (vid : Bool) (a : ℕ) (o : Pos) → isI (at μ o .state) ≡ false → Framed n (afterRead μ vid a o)
   unfolding afterRead
-  read-framed true a o some = put-framed μ o (readBy a (at μ o)) (used o some) (unfold readBy in by-test (top (at μ o .state)) (λ t. rw t (F .frame .addresses o)) (λ t. rw t (F .frame .addresses o))) F
+  read-framed true a o some =
+      put-framed μ o (readBy a (at μ o)) (used o some) (unfold readBy in by-test (top (at μ o .state)) (λ t. rw t (F .frame .addresses o))
+      (λ t. rw t (F .frame .addresses o))) F
   read-framed false a o some = F
 
   demote-framed : (x : ℕ) → Framed n (change (λ p l. demoteLine x l) μ)

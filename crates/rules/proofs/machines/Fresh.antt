@@ -39,8 +39,18 @@ module _ (n : ℕ) (words : List Data) where
     pub fresh-sound : SoundMachine 64 (fresh n words)
     fresh-sound = record {
       lines = record { small = unfold fresh in omega arith; fits = λ p. rw (fresh-at p) (rules-empty 64); each = λ x. sound-none (none (fresh n words .lcvid) x) };
-      frame = record { caches = unfold fresh in refl; words = unfold fresh in all; some = unfold fresh in some; few = unfold fresh in few; unused = λ p i. fresh-at p; addresses = λ p. rw (fresh-at p) (omega arith) };
+      frame =
+          record {
+            caches = unfold fresh in refl;
+            words = unfold fresh in all;
+            some = unfold fresh in some;
+            few = unfold fresh in few;
+            unused = λ p i. fresh-at p;
+            addresses = λ p. rw (fresh-at p) (omega arith);
+          };
     }
 
     pub fresh-view : (x a : ℕ) → view (fresh n words) x a ≡ getD words x noData
-    fresh-view x a = view-is (fresh-sound .lines) x a (unfold fresh in omega arith) (getD words x noData) (from-memory (λ p h. absurd (none (fresh n words .lcvid) x p h)) (unfold memoryAt fresh in refl))
+    fresh-view x a =
+        view-is (fresh-sound .lines) x a (unfold fresh in omega arith) (getD words x noData)
+        (from-memory (λ p h. absurd (none (fresh n words .lcvid) x p h)) (unfold memoryAt fresh in refl))

@@ -99,7 +99,8 @@ pair-test p q k l =
 
 -- ---- what a line needs
 
-pub some-test : (μ : Machine) (x : ℕ) (t : Pos → Line → Bool) (P : Pos → Line → Type 0) → ((q : Pos) (l : Line) → Decides (t q l) (P q l)) → Decides (some μ x t) (There (at μ) (μ .lcvid) x P)
+pub some-test : (μ : Machine) (x : ℕ) (t : Pos → Line → Bool) (P : Pos → Line → Type 0) → ((q : Pos) (l : Line) → Decides (t q l) (P q l))
+    → Decides (some μ x t) (There (at μ) (μ .lcvid) x P)
 unfolding some
 some-test μ x t P d =
     as-test

@@ -134,7 +134,9 @@ words-sound N μ fits x r = record { stand = stand; meets = meets }
         let t = r .table p q n (here-lives hp anyState refl) (here-lives hq anyState refl) in
         record {
           table = t;
-          plains = λ i. let j = stands-plain (at μ p .state) (at μ q .state) t i in (r .plains .apart p q n (here-lives hp plain i) (here-lives hq plain j), words-same (r .plains) p q hp hq t i j);
+          plains =
+              λ i. let j = stands-plain (at μ p .state) (at μ q .state) t i in
+              (r .plains .apart p q n (here-lives hp plain i) (here-lives hq plain j), words-same (r .plains) p q hp hq t i j);
           ranges = λ i j. words-ranges fits (versions p hp (owns-spec (at μ p .state) i)) p q n hp hq i j;
           shares = λ i j e d. n (r .shares q (here-lives hq isSS j) .single p (here-lives hp isSS i) e d);
         }
@@ -242,7 +244,12 @@ module _ {N : ℕ} {μ : Machine} (s : Sound N μ) (x : ℕ) where
   sound-shares p l =
       let (q, hq, o) = s .each x .meets p (lives-here l) .owner (l .kind) in
       record {
-        owner = record { place = q; holds = (here-lives hq owns (o .owning), o .same-m); only = λ t (lt, e). from-once (at μ p .m) t q (lives-here lt) hq (lt .kind, e) (o .owning, o .same-m) };
+        owner =
+            record {
+              place = q;
+              holds = (here-lives hq owns (o .owning), o .same-m);
+              only = λ t (lt, e). from-once (at μ p .m) t q (lives-here lt) hq (lt .kind, e) (o .owning, o .same-m);
+            };
         away = o .away;
         same = o .same-word;
         reach = o .reach;

@@ -94,7 +94,9 @@ module _ {N : ℕ} {μ : Machine} (s : Sound N μ) (vid : Bool) (c a x i : ℕ) 
   -- ---- speculative lines live
 
   owner-held : (o : Pos) → isOwner x a (at μ o) ≡ true → Ok (gives (Value (read (at μ o .word) i)) (afterRead μ vid a o))
-  owner-held o is = let O = owner-at s x a up o is in returns (at μ o .word) (afterRead μ vid a o) (owner-view s x a up o O) (reads s a x small o O vid .keeps) (λ j. rw (has-vid j) (reads-mark s a x small o O j))
+  owner-held o is =
+      let O = owner-at s x a up o is in returns (at μ o .word) (afterRead μ vid a o) (owner-view s x a up o O) (reads s a x small o O vid .keeps)
+      (λ j. rw (has-vid j) (reads-mark s a x small o O j))
 
   -- an S-S hit: its owner line is the owner for a
   share-held : (q : Pos) → isOwnShare c x a q (at μ q) ≡ true → Ok (gives (Value (read (at μ q .word) i)) μ)
@@ -122,7 +124,12 @@ module _ {N : ℕ} {μ : Machine} (s : Sound N μ) (vid : Bool) (c a x i : ℕ) 
       O = record {
         here = own .1;
         owning = y .owning;
-        hit = record { is = owns-spec (at μ p .state) (y .owning); from = omega (arith, y .same-m, parts .1 .1 .1 .from); until = λ r. omega (arith, in-q, y .within (owns-ranged (at μ p .state) (y .owning) r)) };
+        hit =
+            record {
+              is = owns-spec (at μ p .state) (y .owning);
+              from = omega (arith, y .same-m, parts .1 .1 .1 .from);
+              until = λ r. omega (arith, in-q, y .within (owns-ranged (at μ p .state) (y .owning) r));
+            };
       }
 
       mark : μ .lcvid < a → Marked μ x a
@@ -135,7 +142,9 @@ module _ {N : ℕ} {μ : Machine} (s : Sound N μ) (vid : Bool) (c a x i : ℕ) 
   -- the owner is read, stale S-S lines drop, and S-S is placed
   copied : (o : Pos) → isOwner x a (at μ o) ≡ true → o .cache ≢ c → (e : ℕ) → freeSlot (withoutStale μ vid c a x o) c ≡ Slot e
       → Ok (gives (Value (read (at μ o .word) i)) (put (pos c e) (shareLine x a (at μ o)) (withoutStale μ vid c a x o)))
-  copied o is away e slot = returns (at μ o .word) _ (owner-view s x a up o O) (keeps-keeps (R .keeps) placed) (λ j. placed .keeps x a (rw (R .keeps .last) j) (rw (has-vid j) (reads-mark s a x small o O j)))
+  copied o is away e slot =
+      returns (at μ o .word) _ (owner-view s x a up o O) (keeps-keeps (R .keeps) placed)
+      (λ j. placed .keeps x a (rw (R .keeps .last) j) (rw (has-vid j) (reads-mark s a x small o O j)))
     where
       O : OwnerAt (at μ) (μ .lcvid) x a o
       O = owner-at s x a up o is
@@ -150,7 +159,10 @@ module _ {N : ℕ} {μ : Machine} (s : Sound N μ) (vid : Bool) (c a x i : ℕ) 
       high t = by-test vid (λ v. omega (arith, R .high v (was (R .like) top t))) (λ v. omega (arith, plainly v, R .keeps .last))
 
       placed : Keeps N ρ (put (pos c e) (shareLine x a (at μ o)) (withoutStale μ vid c a x o)) a x
-      placed = share-placed (R .keeps .sound) c a x e (at μ o .m) (at μ o .word) o (owner-like (R .like) (R .here) (subst (λ (lc : ℕ). OwnerAt (at μ) lc x a o) (sym (R .keeps .last)) O)) (R .like .same-m) (R .like .word) (rw (R .keeps .last) up) small (rw (R .width) in-range) away high slot
+      placed =
+          share-placed (R .keeps .sound) c a x e (at μ o .m) (at μ o .word) o
+          (owner-like (R .like) (R .here) (subst (λ (lc : ℕ). OwnerAt (at μ) lc x a o) (sym (R .keeps .last)) O)) (R .like .same-m) (R .like .word)
+          (rw (R .keeps .last) up) small (rw (R .width) in-range) away high slot
 
   -- ---- no owner, so no speculative line lives
 
@@ -164,7 +176,8 @@ module _ {N : ℕ} {μ : Machine} (s : Sound N μ) (vid : Bool) (c a x i : ℕ) 
       seen : plainData μ x ≡ view μ x a
       seen = plain-view s x a up none
 
-      go : (t : State) → top t ≡ true → (clean t ≡ true → plainData μ x ≡ memoryAt μ x) → Ok (gives (Value (read (plainData μ x) i)) (put (pos c e) (line t x 0 a (plainData μ x)) (drop (isOf x) μ)))
+      go : (t : State) → top t ≡ true → (clean t ≡ true → plainData μ x ≡ memoryAt μ x)
+          → Ok (gives (Value (read (plainData μ x) i)) (put (pos c e) (line t x 0 a (plainData μ x)) (drop (isOf x) μ)))
       go t j k = returns (plainData μ x) ν seen K (λ z. (pos c e, rw (new, K .last) here-l, rw new (j, omega arith)))
         where
           l : Line
@@ -183,8 +196,11 @@ module _ {N : ℕ} {μ : Machine} (s : Sound N μ) (vid : Bool) (c a x i : ℕ) 
           lone = record { whole = state-not top ranged refl t j; equal = k; covers = λ z. omega arith }
 
           K : Keeps N μ ν a x
-          K = local-keeps s (replaced-local μ x c e l slot in-range refl) (replaced-fits μ x c e l slot in-range refl (rules-top N l j (omega arith) small (omega (arith, above v)) (λ z. refl)) (s .fits)) a (replaced-memory μ x c e l slot in-range refl)
-              (keeps-lone (pos c e) (replaced-only μ x c e l slot in-range refl (μ .lcvid)) (rw new here-l) (rw new lone) a (λ b d f g. rw new (quiet-flat s x a up quiet b f d g ∙ sym seen)) (quiet-unmarked μ x quiet) (λ z. rw new (omega arith)))
+          K =
+              local-keeps s (replaced-local μ x c e l slot in-range refl) (replaced-fits μ x c e l slot in-range refl
+              (rules-top N l j (omega arith) small (omega (arith, above v)) (λ z. refl)) (s .fits)) a (replaced-memory μ x c e l slot in-range refl)
+              (keeps-lone (pos c e) (replaced-only μ x c e l slot in-range refl (μ .lcvid)) (rw new here-l) (rw new lone) a
+              (λ b d f g. rw new (quiet-flat s x a up quiet b f d g ∙ sym seen)) (quiet-unmarked μ x quiet) (λ z. rw new (omega arith)))
 
   -- ---- plain, without an owner
 
@@ -197,10 +213,12 @@ module _ {N : ℕ} {μ : Machine} (s : Sound N μ) (vid : Bool) (c a x i : ℕ) 
 
   -- M becomes O, E becomes S, and S is placed beside them
   shared : vid ≡ false → Unowned μ x a → ((p : Pos) → (eqb (p .cache) c && isPlain x (at μ p)) ≡ false) → (q : Pos) → isPlain x (at μ q) ≡ true
-      → (e : ℕ) → freeSlot (change (λ p l. demoteLine x l) μ) c ≡ Slot e → Ok (gives (Value (read (at μ q .word) i)) (put (pos c e) (line S x 0 0 (at μ q .word)) (change (λ p l. demoteLine x l) μ)))
+      → (e : ℕ) → freeSlot (change (λ p l. demoteLine x l) μ) c ≡ Slot e → Ok
+      (gives (Value (read (at μ q .word) i)) (put (pos c e) (line S x 0 0 (at μ q .word)) (change (λ p l. demoteLine x l) μ)))
   shared v none own q is e slot = returns (at μ q .word) _ (plain-word none q is) (shared-placed s c a x e q in-range is own slot) (unmarked v)
 
-  fetched : vid ≡ false → Unowned μ x a → ((p : Pos) → isPlain x (at μ p) ≡ false) → (e : ℕ) → freeSlot μ c ≡ Slot e → Ok (gives (Value (read (memoryAt μ x) i)) (put (pos c e) (line E x 0 0 (memoryAt μ x)) μ))
+  fetched : vid ≡ false → Unowned μ x a → ((p : Pos) → isPlain x (at μ p) ≡ false) → (e : ℕ) → freeSlot μ c ≡ Slot e
+      → Ok (gives (Value (read (memoryAt μ x) i)) (put (pos c e) (line E x 0 0 (memoryAt μ x)) μ))
   fetched v none bare e slot = returns (memoryAt μ x) ν (sym (view-is s x a up (memoryAt μ x) (from-memory (λ p h. absurd (no-line p h)) refl))) K (unmarked v)
     where
       l : Line
@@ -222,4 +240,6 @@ module _ {N : ℕ} {μ : Machine} (s : Sound N μ) (vid : Bool) (c a x i : ℕ) 
 
   -- the law of loads
   pub load-law : LoadOutcome N μ a x i (loadOf μ vid c a x i)
-  load-law = load-cases Ok μ vid c a x i (record { owner = owner-held; share = share-held; copy = copied; first = first; held = held; shared = shared; fetched = fetched; full = no-room })
+  load-law =
+      load-cases Ok μ vid c a x i (record
+      { owner = owner-held; share = share-held; copy = copied; first = first; held = held; shared = shared; fetched = fetched; full = no-room })

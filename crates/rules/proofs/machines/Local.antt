@@ -57,7 +57,8 @@ local-trans {μ} {ν} {ρ} {x} L K = record {
 
 -- at another address the live lines are the same
 local-same : {μ ν : Machine} {x : ℕ} → Local μ ν x → (a y : ℕ) → y ≢ x → SameAt a (at μ) (at ν) (μ .lcvid) y
-local-same {μ} {ν} {x} L a y n = record { there = λ p h. let e = there p h (L .lines p) in (rw e h, like-same a e); back = λ p h. let e = back p h (L .lines p) in (rw e at h, like-same a e) }
+local-same {μ} {ν} {x} L a y n =
+    record { there = λ p h. let e = there p h (L .lines p) in (rw e h, like-same a e); back = λ p h. let e = back p h (L .lines p) in (rw e at h, like-same a e) }
   where
     there : (p : Pos) → Here (μ .lcvid) y (at μ p) → (at ν p ≡ at μ p) ⊎ (Off (μ .lcvid) x (at μ p) × Off (μ .lcvid) x (at ν p)) → at ν p ≡ at μ p
     there p h (inl e) = e
@@ -151,7 +152,8 @@ module _ {N : ℕ} {μ ν : Machine} {x : ℕ} (s : Sound N μ) (L : Local μ ν
           here (inr l) = inr (refl, l)
       made y b i k (no n) = inl (mark-old t y b n i k)
 
-  pub local-writes : (a : ℕ) (d : Data) → memoryAt ν x ≡ memoryAt μ x → WritesAt (at μ) (at ν) (μ .lcvid) x a (memoryAt μ x) d → μ .lcvid ≤ a → ((b : ℕ) → a ≤ b → view μ x b ≡ view μ x a) → Writes N μ ν a x d
+  pub local-writes : (a : ℕ) (d : Data) → memoryAt ν x ≡ memoryAt μ x → WritesAt (at μ) (at ν) (μ .lcvid) x a (memoryAt μ x) d → μ .lcvid ≤ a
+      → ((b : ℕ) → a ≤ b → view μ x b ≡ view μ x a) → Writes N μ ν a x d
   local-writes a d mem W up flat = record {
     sound = t;
     last = L .last;

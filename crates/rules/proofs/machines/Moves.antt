@@ -60,7 +60,12 @@ module _ (δ : Machine) (c e : ℕ) (l : Line) (slot : freeSlot δ c ≡ Slot e)
   placed-local x i = put-local δ (pos c e) l x (off-free (δ .lcvid) x (at δ (pos c e)) placed-free) (off-at (δ .lcvid) x l i)
 
   pub placed-added : (x : ℕ) → Here (δ .lcvid) x l → Added (at δ) (at (put (pos c e) l δ)) (δ .lcvid) x (pos c e)
-  placed-added x h = record { rest = λ q n. at-put-other δ (pos c e) q l n; free = λ k. not-both (live-test (δ .lcvid) (at δ (pos c e)) .when (k .alive)) placed-free; here = rw placed-new h }
+  placed-added x h =
+      record {
+        rest = λ q n. at-put-other δ (pos c e) q l n;
+        free = λ k. not-both (live-test (δ .lcvid) (at δ (pos c e)) .when (k .alive)) placed-free;
+        here = rw placed-new h;
+      }
 
 -- ---- drop
 
@@ -87,7 +92,8 @@ pub change-width : (k : Pos → Line → Line) (μ : Machine) → length (change
 unfolding change
 change-width k μ = length-map _ (μ .caches)
 
-pub change-local : (k : Pos → Line → Line) (μ : Machine) (x : ℕ) → ((p : Pos) → k p empty ≡ empty) → ((p : Pos) (l : Line) → l .address ≢ x → k p l ≡ l) → ((p : Pos) (l : Line) → l .address ≡ x → k p l .address ≡ x) → Local μ (change k μ) x
+pub change-local : (k : Pos → Line → Line) (μ : Machine) (x : ℕ) → ((p : Pos) → k p empty ≡ empty) → ((p : Pos) (l : Line) → l .address ≢ x → k p l ≡ l)
+    → ((p : Pos) (l : Line) → l .address ≡ x → k p l .address ≡ x) → Local μ (change k μ) x
 change-local k μ x e other same = record { last = unfold change in refl; memory = λ y n. unfold change memoryAt in refl; lines = λ q. go q (ℕ-discrete (at μ q .address) x) }
   where
     go : (q : Pos) → Dec (at μ q .address ≡ x) → (at (change k μ) q ≡ at μ q) ⊎ (Off (μ .lcvid) x (at μ q) × Off (μ .lcvid) x (at (change k μ) q))
@@ -100,7 +106,8 @@ change-memory k μ x = unfold change memoryAt in refl
 -- ---- write
 
 pub write-local : (μ : Machine) (x : ℕ) (d : Data) → Local μ (write x d μ) x
-write-local μ x d = record { last = unfold write in refl; memory = λ y n. unfold write memoryAt in getD-set-other (μ .memory) x y d noData n; lines = λ q. inl (unfold write at in refl) }
+write-local μ x d =
+    record { last = unfold write in refl; memory = λ y n. unfold write memoryAt in getD-set-other (μ .memory) x y d noData n; lines = λ q. inl (unfold write at in refl) }
 
 pub write-lines : (μ : Machine) (x : ℕ) (d : Data) (q : Pos) → at (write x d μ) q ≡ at μ q
 write-lines μ x d q = unfold write at in refl

@@ -51,7 +51,8 @@ linesOf μ c = getD (μ .caches) c noCache .lines
 pub at-change : (k : Pos → Line → Line) (μ : Machine) → ((p : Pos) → k p empty ≡ empty) → (p : Pos) → at (change k μ) p ≡ k p (at μ p)
 unfolding at change
 at-change k μ h p =
-    ap (λ (c : Cache). getD (c .lines) (p .slot) empty) (getD-map (λ c g. record { lines = mapAt (λ s l. k (pos c s) l) (g .lines) }) (μ .caches) noCache (λ i. unfold mapAt in refl) (p .cache))
+    ap (λ (c : Cache). getD (c .lines) (p .slot) empty) (getD-map (λ c g. record { lines = mapAt (λ s l. k (pos c s) l) (g .lines) }) (μ .caches) noCache
+    (λ i. unfold mapAt in refl) (p .cache))
     ∙ getD-map (λ s l. k (pos (p .cache) s) l) (linesOf μ (p .cache)) empty (λ i. h (pos (p .cache) i)) (p .slot)
 
 -- a dropped line is empty, another stays
@@ -88,7 +89,9 @@ at-put-other μ p q l n = go (ℕ-discrete (q .cache) (p .cache)) (decLt (p .cac
         → getD (getD (set (μ .caches) (p .cache) h) (q .cache) noCache .lines) (q .slot) empty ≡ getD (linesOf μ (q .cache)) (q .slot) empty
     go (no c) d = rw (getD-set-other (μ .caches) (p .cache) (q .cache) h noCache c)
     go (yes c) (no d) = rw (set-out (μ .caches) (p .cache) h (omega arith))
-    go (yes c) (yes d) = rw (c, getD-set-same (μ .caches) (p .cache) h noCache d) (getD-set-other (linesOf μ (p .cache)) (p .slot) (q .slot) l empty (λ e. n (λ i. record { cache = c i; slot = e i })))
+    go (yes c) (yes d) =
+        rw (c, getD-set-same (μ .caches) (p .cache) h noCache d) (getD-set-other (linesOf μ (p .cache)) (p .slot) (q .slot) l empty
+        (λ e. n (λ i. record { cache = c i; slot = e i })))
 
 -- a line that is there stands within
 pub some-within : (μ : Machine) (p : Pos) → at μ p ≢ empty → Within μ p
@@ -132,7 +135,8 @@ pub find-none : (t : Pos → Line → Bool) (μ : Machine) → ((q : Pos) → t 
 unfolding find
 find-none t μ none e p = go (decLt (p .cache) (length (μ .caches))) (decLt (p .slot) (length (linesOf μ (p .cache))))
   where
-    in-lines : (r : Room) → firstAt (λ s l. t (pos (p .cache) s) l) (linesOf μ (p .cache)) ≡ r → inCache (p .cache) r ≡ Nowhere → p .slot < length (linesOf μ (p .cache)) → t p (getD (linesOf μ (p .cache)) (p .slot) empty) ≡ false
+    in-lines : (r : Room) → firstAt (λ s l. t (pos (p .cache) s) l) (linesOf μ (p .cache)) ≡ r → inCache (p .cache) r ≡ Nowhere → p .slot < length (linesOf μ (p .cache))
+        → t p (getD (linesOf μ (p .cache)) (p .slot) empty) ≡ false
     in-lines (Slot s) q d h = at-not-nowhere d
     in-lines Full q d h = first-none (λ s l. t (pos (p .cache) s) l) (linesOf μ (p .cache)) empty q (p .slot) h
 
@@ -140,13 +144,16 @@ find-none t μ none e p = go (decLt (p .cache) (length (μ .caches))) (decLt (p 
     outside n = by-test (t p (at μ p)) (λ i. absurd (n (some-within μ p (λ d. not-both (rw d at i) (none p))))) (λ i. i)
 
     go : Dec (p .cache < length (μ .caches)) → Dec (p .slot < length (linesOf μ (p .cache))) → t p (at μ p) ≡ false
-    go (yes c) (yes s) = unfold at in in-lines (firstAt (λ s l. t (pos (p .cache) s) l) (linesOf μ (p .cache))) refl (found-none (λ c h. inCache c (firstAt (λ s l. t (pos c s) l) (h .lines))) (μ .caches) noCache e (p .cache) c) s
+    go (yes c) (yes s) =
+        unfold at in in-lines (firstAt (λ s l. t (pos (p .cache) s) l) (linesOf μ (p .cache))) refl
+        (found-none (λ c h. inCache c (firstAt (λ s l. t (pos c s) l) (h .lines))) (μ .caches) noCache e (p .cache) c) s
     go (no c) s = outside (λ w. c (w .cache))
     go (yes c) (no s) = outside (λ w. s (w .slot))
 
 -- ---- tests of lines
 
-pub all-lines : (k : Pos → Line → Bool) (P : Pos → Line → Type 0) (μ : Machine) → ((p : Pos) (l : Line) → Decides (k p l) (P p l)) → ((p : Pos) → P p empty) → Decides (allLines k μ) ((p : Pos) → P p (at μ p))
+pub all-lines : (k : Pos → Line → Bool) (P : Pos → Line → Type 0) (μ : Machine) → ((p : Pos) (l : Line) → Decides (k p l) (P p l)) → ((p : Pos) → P p empty)
+    → Decides (allLines k μ) ((p : Pos) → P p (at μ p))
 unfolding allLines at
 all-lines k P μ d e = record {
   says = λ h p. d p (at μ p) .says (all-at (λ s l. k (pos (p .cache) s) l) (linesOf μ (p .cache)) empty (λ s. d (pos (p .cache) s) empty .when (e (pos (p .cache) s)))
@@ -155,7 +162,8 @@ all-lines k P μ d e = record {
       (λ c i. all-of (λ s l. k (pos c s) l) (linesOf μ c) empty (λ s j. d (pos c s) (at μ (pos c s)) .when (h (pos c s))));
 }
 
-pub any-line : (k : Pos → Line → Bool) (P : Pos → Line → Type 0) (μ : Machine) → ((p : Pos) (l : Line) → Decides (k p l) (P p l)) → ((p : Pos) → P p empty → ⊥) → Decides (anyLine k μ) ((p : Pos) × P p (at μ p))
+pub any-line : (k : Pos → Line → Bool) (P : Pos → Line → Type 0) (μ : Machine) → ((p : Pos) (l : Line) → Decides (k p l) (P p l)) → ((p : Pos) → P p empty → ⊥)
+    → Decides (anyLine k μ) ((p : Pos) × P p (at μ p))
 unfolding anyLine
 any-line k P μ d e = record { says = says (find k μ) refl; when = λ h. when h (find k μ) refl }
   where

@@ -43,7 +43,9 @@ module _ {N : ℕ} {μ : Machine} (s : Sound N μ) (small : suc (μ .lcvid) < N)
   commit-sound = record { small = small; fits = s .fits; each = λ x. sound-commit (good s x) }
 
   pub commit-view : (x a : ℕ) → suc (μ .lcvid) ≤ a → view next x a ≡ view μ x a
-  commit-view x a i = view-is commit-sound x a (unfold commitOf withLcvid in i) (view μ x a) (unfold commitOf withLcvid at memoryAt in sees-commit (good s x) a (view μ x a) i (view-sees s x a (omega arith)))
+  commit-view x a i =
+      view-is commit-sound x a (unfold commitOf withLcvid in i) (view μ x a) (unfold commitOf withLcvid at memoryAt in sees-commit (good s x) a (view μ x a) i
+      (view-sees s x a (omega arith)))
 
   pub commit-keeps : (x b : ℕ) → Marked μ x b → Marked next x b
   commit-keeps x b k = unfold commitOf withLcvid at in mark-commit (good s x) b k
@@ -61,7 +63,8 @@ module _ {N : ℕ} {μ : Machine} (s : Sound N μ) where
   abort-rules : (p : Pos) → LineRules N (at (abortOf μ) p)
   abort-rules p = rw (abort-at μ p) (unfold abortLine in by-test (spec (at μ p .state))
       (λ i. by-test (owns (at μ p .state) && hits (μ .lcvid) (at μ p))
-      (λ j. rw (i, j) (rules-plain N (settled (at μ p)) (state-rule owns (λ s. plain (settle s)) refl (at μ p .state) (left (owns (at μ p .state)) (hits (μ .lcvid) (at μ p)) j)) refl refl)) (λ j. rw (i, j) (rules-empty N)))
+      (λ j. rw (i, j) (rules-plain N (settled (at μ p)) (state-rule owns (λ s. plain (settle s)) refl (at μ p .state)
+      (left (owns (at μ p .state)) (hits (μ .lcvid) (at μ p)) j)) refl refl)) (λ j. rw (i, j) (rules-empty N)))
       (λ i. rw i (s .fits p)))
 
   pub abort-last : abortOf μ .lcvid ≡ μ .lcvid
@@ -77,11 +80,19 @@ module _ {N : ℕ} {μ : Machine} (s : Sound N μ) where
   sees-each x a = rw (abort-memory x) (sees-abort (good s x) (abort-at μ) a (view μ x (μ .lcvid)) (view-sees s x (μ .lcvid) (omega arith)))
 
   pub abort-sound : Sound N (abortOf μ)
-  abort-sound = record { small = rw abort-last (s .small); fits = abort-rules; each = λ x. subst (λ (lc : ℕ). SoundAt (at (abortOf μ)) lc x (memoryAt (abortOf μ) x)) (sym abort-last) (sound-each x) }
+  abort-sound =
+      record {
+        small = rw abort-last (s .small);
+        fits = abort-rules;
+        each = λ x. subst (λ (lc : ℕ). SoundAt (at (abortOf μ)) lc x (memoryAt (abortOf μ) x))
+            (sym abort-last) (sound-each x);
+      }
 
   -- every number sees what LCVID saw
   pub abort-view : (x a : ℕ) → μ .lcvid ≤ a → view (abortOf μ) x a ≡ view μ x (μ .lcvid)
-  abort-view x a i = view-is abort-sound x a (rw abort-last i) (view μ x (μ .lcvid)) (subst (λ (lc : ℕ). Sees (at (abortOf μ)) lc x (memoryAt (abortOf μ) x) a (view μ x (μ .lcvid))) (sym abort-last) (sees-each x a))
+  abort-view x a i =
+      view-is abort-sound x a (rw abort-last i) (view μ x (μ .lcvid)) (subst (λ (lc : ℕ). Sees (at (abortOf μ)) lc x (memoryAt (abortOf μ) x) a (view μ x (μ .lcvid)))
+      (sym abort-last) (sees-each x a))
 
   abort-none : (p : Pos) → spec (at (abortOf μ) p .state) ≡ false
   abort-none p = rw (abort-at μ p) (abort-plain (μ .lcvid) (at μ p))
@@ -116,7 +127,13 @@ module _ {N : ℕ} {μ : Machine} (s : Sound N μ) where
         by-test (isSS (at μ p .state)) (λ i. rw (state-rule isSS ranged refl (at μ p .state) i, state-rule isSS spec refl (at μ p .state) i, state-not isSS owns refl (at μ p .state) i))
         (λ i. by-test (isSO (at μ p .state)) (λ j. rw (so-ranged (at μ p .state) j, owns-spec (at μ p .state) (so-owns (at μ p .state) j), so-owns (at μ p .state) j, no-SO p j))
         (λ j. by-test (top (at μ p .state))
-        (λ t. rw (state-not top ranged refl (at μ p .state) t, t, top-spec (at μ p .state) t, top-owns (at μ p .state) t, hits-test (μ .lcvid) (at μ p) .when (top-hits (μ .lcvid) (at μ p) t (omega (arith, s .fits p .newest t, settled-high p t)))))
+        (λ t. rw (
+          state-not top ranged refl (at μ p .state) t,
+          t,
+          top-spec (at μ p .state) t,
+          top-owns (at μ p .state) t,
+          hits-test (μ .lcvid) (at μ p) .when (top-hits (μ .lcvid) (at μ p) t (omega (arith, s .fits p .newest t, settled-high p t))),
+        ))
         (λ t. let k = both (neg i) (both (neg j) (neg t)) in rw (state-not plainest ranged refl (at μ p .state) k, t, state-not plainest spec refl (at μ p .state) k))))
       where
         plainest : State → Bool
@@ -143,11 +160,15 @@ module _ {N : ℕ} {μ : Machine} (s : Sound N μ) where
     reset-sound = record {
       small = rw reset-last (omega (arith, s .small));
       fits = λ p. rw (reset-at p) (abort-rules p);
-      each = λ x. sound-under (at (resetOf μ)) (μ .lcvid) (resetOf μ .lcvid) x reset-none (subst₂ (λ (f : Pos → Line) (w : Data). SoundAt f (μ .lcvid) x w) (sym reset-lines) (sym (reset-memory x)) (sound-each x));
+      each =
+          λ x. sound-under (at (resetOf μ)) (μ .lcvid) (resetOf μ .lcvid) x reset-none
+          (subst₂ (λ (f : Pos → Line) (w : Data). SoundAt f (μ .lcvid) x w) (sym reset-lines) (sym (reset-memory x)) (sound-each x));
     }
 
     pub reset-view : (x a : ℕ) → view (resetOf μ) x a ≡ view μ x (μ .lcvid)
-    reset-view x a = view-is reset-sound x a (rw reset-last (omega arith)) (view μ x (μ .lcvid)) (sees-under (at (resetOf μ)) (μ .lcvid) (resetOf μ .lcvid) x reset-none a a (view μ x (μ .lcvid))
+    reset-view x a =
+        view-is reset-sound x a (rw reset-last (omega arith)) (view μ x (μ .lcvid))
+        (sees-under (at (resetOf μ)) (μ .lcvid) (resetOf μ .lcvid) x reset-none a a (view μ x (μ .lcvid))
         (subst₂ (λ (f : Pos → Line) (w : Data). Sees f (μ .lcvid) x w a (view μ x (μ .lcvid))) (sym reset-lines) (sym (reset-memory x)) (sees-each x a)))
 
     pub reset-clear : (x b : ℕ) → Marked (resetOf μ) x b → ⊥

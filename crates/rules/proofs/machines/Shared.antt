@@ -43,15 +43,18 @@ stale-test c x m p l = and-test (eq-test (p .cache) c) (share-test x m l)
 
 -- ---- S-S lines of x drop
 
-pub shares-dropped : {N : ℕ} {μ : Machine} → Sound N μ → (t : Pos → Line → Bool) (a x : ℕ) → ((p : Pos) (l : Line) → t p l ≡ true → (isSS (l .state) ≡ true) × (l .address ≡ x)) → Keeps N μ (drop t μ) a x
+pub shares-dropped : {N : ℕ} {μ : Machine} → Sound N μ → (t : Pos → Line → Bool) (a x : ℕ)
+    → ((p : Pos) (l : Line) → t p l ≡ true → (isSS (l .state) ≡ true) × (l .address ≡ x)) → Keeps N μ (drop t μ) a x
 shares-dropped {μ = μ} s t a x k =
     local-keeps s (drop-local t μ x (λ p i. k p (at μ p) i .1)) (drop-fits t μ (s .fits)) a (drop-memory t μ x)
     (keeps-shares-gone a (λ p. by-test (t p (at μ p)) (λ i. inr (k p (at μ p) i .0, drop-gone t μ p i)) (λ i. inl (drop-stays t μ p i))) (s .each x))
 
 -- ---- S-S (m, a + 1) placed beside the owner o, which is in another cache and has been read; the asker's S-S lines with that m drop first
 
-module _ {N : ℕ} {ρ : Machine} (s : Sound N ρ) (c a x e m : ℕ) (d : Data) (o : Pos) (O : OwnerAt (at ρ) (ρ .lcvid) x a o) (same-m : at ρ o .m ≡ m) (same-word : at ρ o .word ≡ d) (up : ρ .lcvid ≤ a) (small : a < N)
-    (in-range : c < length (ρ .caches)) (away : o .cache ≢ c) (high : top (at ρ o .state) ≡ true → a ≤ max (at ρ o .h) (ρ .lcvid)) (slot : freeSlot (drop (isStaleShare c x m) ρ) c ≡ Slot e) where
+module _ {N : ℕ} {ρ : Machine} (s : Sound N ρ) (c a x e m : ℕ) (d : Data) (o : Pos) (O : OwnerAt (at ρ) (ρ .lcvid) x a o) (same-m : at ρ o .m ≡ m)
+    (same-word : at ρ o .word ≡ d) (up : ρ .lcvid ≤ a) (small : a < N)
+    (in-range : c < length (ρ .caches)) (away : o .cache ≢ c) (high : top (at ρ o .state) ≡ true → a ≤ max (at ρ o .h) (ρ .lcvid))
+    (slot : freeSlot (drop (isStaleShare c x m) ρ) c ≡ Slot e) where
   abbrev stale : Pos → Line → Bool
   stale = isStaleShare c x m
 
@@ -89,7 +92,8 @@ module _ {N : ℕ} {ρ : Machine} (s : Sound N ρ) (c a x e m : ℕ) (d : Data) 
 
 -- ---- S placed beside plain lines, of which q is one, none of them the asker's; M becomes O and E becomes S first
 
-module _ {N : ℕ} {μ : Machine} (s : Sound N μ) (c a x e : ℕ) (q : Pos) (in-range : c < length (μ .caches)) (is : isPlain x (at μ q) ≡ true) (own : (p : Pos) → (eqb (p .cache) c && isPlain x (at μ p)) ≡ false)
+module _ {N : ℕ} {μ : Machine} (s : Sound N μ) (c a x e : ℕ) (q : Pos) (in-range : c < length (μ .caches)) (is : isPlain x (at μ q) ≡ true)
+    (own : (p : Pos) → (eqb (p .cache) c && isPlain x (at μ p)) ≡ false)
     (slot : freeSlot (change (λ p l. demoteLine x l) μ) c ≡ Slot e) where
   abbrev demoting : Pos → Line → Line
   demoting p l = demoteLine x l
@@ -120,7 +124,19 @@ module _ {N : ℕ} {μ : Machine} (s : Sound N μ) (c a x e : ℕ) (q : Pos) (in
   ε-rules p = go (ℕ-discrete (at μ p .address) x)
     where
       same : (t : State) → plain t ≡ false → demote t ≡ t
-      same t = elim t [ I ↦ λ h. refl | M ↦ λ h. absurd (true≢false h) | O ↦ λ h. refl | E ↦ λ h. absurd (true≢false h) | S ↦ λ h. refl | SM ↦ λ h. refl | SO ↦ λ h. refl | SE ↦ λ h. refl | SS ↦ λ h. refl ]
+      same t =
+          elim t [
+            | I ↦ λ h. refl
+            | M ↦ λ h. absurd (true≢false h)
+            | O ↦ λ h. refl
+            | E ↦ λ h. absurd (true≢false h)
+            | S ↦ λ h. refl
+            | SM ↦ λ h. refl
+            | SO ↦ λ h. refl
+            | SE
+                ↦ λ h. refl
+            | SS ↦ λ h. refl
+          ]
 
       go : Dec (at μ p .address ≡ x) → LineRules N (at ε p)
       go (no n) = rw (demote-at p ∙ demote-other x (at μ p) n) (s .fits p)
@@ -151,6 +167,9 @@ module _ {N : ℕ} {μ : Machine} (s : Sound N μ) (c a x e : ℕ) (q : Pos) (in
       not-both (both (eq-eqb (p .cache) c (sym d)) (plain-test x (at μ p) .when (plain-all (good s x) q p hq hp pq, i))) (own p)
 
   pub shared-placed : Keeps N μ (put (pos c e) new-S ε) a x
-  shared-placed = keeps-keeps fading (local-keeps (fading .sound) (placed-local ε c e new-S slot width-ε x refl) (put-fits ε (pos c e) new-S (rules-plain N new-S refl refl refl) (fading .sound .fits)) a (put-memory ε (pos c e) new-S x)
-      (keeps-S (good (fading .sound) x) (placed-added ε c e new-S slot width-ε x (plain-here (ε .lcvid) x new-S refl refl)) q here-ε (placed-new ε c e new-S slot width-ε ∙ rw (demoted-at q (hq .at)) refl)
+  shared-placed =
+      keeps-keeps fading (local-keeps (fading .sound) (placed-local ε c e new-S slot width-ε x refl)
+      (put-fits ε (pos c e) new-S (rules-plain N new-S refl refl refl) (fading .sound .fits)) a (put-memory ε (pos c e) new-S x)
+      (keeps-S (good (fading .sound) x) (placed-added ε c e new-S slot width-ε x (plain-here (ε .lcvid) x new-S refl refl)) q here-ε
+      (placed-new ε c e new-S slot width-ε ∙ rw (demoted-at q (hq .at)) refl)
       (λ p h. demoted-kind (good s x) q hq pq demoted-at was-of p (under-μ p h)) away-ε a))

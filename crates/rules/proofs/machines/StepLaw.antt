@@ -57,7 +57,8 @@ word-same : {d e : Data} (i : ℕ) → d ≡ e → read d i ≡ read e i
 word-same i e = ap (λ (d : Data). read d i) e
 
 module _ {N : ℕ} {μ ν : Machine} where
-  loads-word : (a at : ℕ) (d : Data) → a < N → μ .lcvid ≤ a → d ≡ view μ (lineOf at) a → Keeps N μ ν a (lineOf at) → (μ .lcvid < a → Marked ν (lineOf at) a) → Loads Machine lineOf lastOf wordView wordMarked N μ ν a at (read d (wordOf at))
+  loads-word : (a at : ℕ) (d : Data) → a < N → μ .lcvid ≤ a → d ≡ view μ (lineOf at) a → Keeps N μ ν a (lineOf at) → (μ .lcvid < a → Marked ν (lineOf at) a)
+      → Loads Machine lineOf lastOf wordView wordMarked N μ ν a at (read d (wordOf at))
   loads-word a at d small up seen K new = record {
     small = small;
     up = up;
@@ -89,7 +90,8 @@ module _ {N : ℕ} {μ ν : Machine} where
       others y b n i (no e) d = word-same (wordOf y) (W .others (lineOf y) b e i)
       others y b n i (yes e) (no d) = rw e (word-same (wordOf y) (W .before b i (omega arith)))
       others y b n i (yes e) (yes d) =
-          rw e (word-same (wordOf y) (W .set b d) ∙ read-other (view μ (lineOf at) a) (wordOf at) (wordOf y) w (word-small at) (word-small y) (word-apart y at n e) ∙ word-same (wordOf y) (sym (W .flat b d)))
+          rw e (word-same (wordOf y) (W .set b d) ∙ read-other (view μ (lineOf at) a) (wordOf at) (wordOf y) w (word-small at) (word-small y) (word-apart y at n e) ∙
+          word-same (wordOf y) (sym (W .flat b d)))
 
 -- ---- a step's outcome: sound again, and lawful
 
@@ -168,7 +170,9 @@ module _ {μ : Machine} (s : SoundMachine (vids μ) μ) where
         turn r load-no-room f = record { sound = s; law = refl }
 
     store-ok : (w : ℕ) → StepOk μ (Store c v at w) (storeOf μ (hasVid v) c a x (newData μ a x (wordOf at) w))
-    store-ok w = turn (storeOf μ (hasVid v) c a x d) (store-law (s .lines) (hasVid v) c a x d in-range small-a with-vid plainly) (store-framed framed c x asks low-x (hasVid v) a d .frame)
+    store-ok w =
+        turn (storeOf μ (hasVid v) c a x d) (store-law (s .lines) (hasVid v) c a x d in-range small-a with-vid plainly)
+        (store-framed framed c x asks low-x (hasVid v) a d .frame)
       where
         d : Data
         d = newData μ a x (wordOf at) w
@@ -182,7 +186,9 @@ module _ {μ : Machine} (s : SoundMachine (vids μ) μ) where
   checked-ok : (op : Op) (c v at : ℕ) (r : Answered)
       → (leb (μ .count) c ≡ false → ltb lastAddress at ≡ false → leb (vids μ) v ≡ false → (hasVid v && leb v (μ .lcvid)) ≡ false → StepOk μ op r) → StepOk μ op (checked μ c v at r)
   unfolding checked
-  checked-ok op c v at r h = unless (leb (vids μ) (μ .lcvid)) _ op _ (λ h0. unless (leb (μ .count) c) _ op _ (λ h1. unless (ltb lastAddress at) _ op _ (λ h2. unless (leb (vids μ) v) _ op _ (λ h3. unless (hasVid v && leb v (μ .lcvid)) _ op r (λ h4. h h1 h2 h3 h4)))))
+  checked-ok op c v at r h =
+      unless (leb (vids μ) (μ .lcvid)) _ op _ (λ h0. unless (leb (μ .count) c) _ op _
+      (λ h1. unless (ltb lastAddress at) _ op _ (λ h2. unless (leb (vids μ) v) _ op _ (λ h3. unless (hasVid v && leb v (μ .lcvid)) _ op r (λ h4. h h1 h2 h3 h4)))))
 
   -- ---- the others
 
@@ -216,7 +222,9 @@ module _ {μ : Machine} (s : SoundMachine (vids μ) μ) where
   }
 
   evict-ok : (c t : ℕ) → isI (at μ (pos c t) .state) ≡ false → StepOk μ (Evict c t) (evictOf μ (pos c t))
-  evict-ok c t some = turn (evictOf μ (pos c t)) (evict-law (s .lines) (pos c t) some (omega (arith, s .frame .addresses (pos c t), s .frame .words))) (evict-framed framed (pos c t) some .frame)
+  evict-ok c t some =
+      turn (evictOf μ (pos c t)) (evict-law (s .lines) (pos c t) some (omega (arith, s .frame .addresses (pos c t), s .frame .words)))
+      (evict-framed framed (pos c t) some .frame)
     where
       old : {b : ℕ} {P Q : Type 0} → μ .lcvid < b → P ⊎ (Q × (b ≤ μ .lcvid)) → P
       old i (inl m) = m
@@ -243,7 +251,9 @@ module _ {μ : Machine} (s : SoundMachine (vids μ) μ) where
   rule-ok (Commit v) = unless (leb (vids μ) v) _ (Commit v) _ (λ h1. unless (not (eqb v (suc (μ .lcvid)))) _ (Commit v) _ (λ h2. commit-ok v h1 h2))
   rule-ok Abort = aborted Abort Done aborts
   rule-ok Reset = unless (unsettled μ) _ Reset _ reset-ok
-  rule-ok (Evict c t) = unless (leb (μ .count) c) _ (Evict c t) _ (λ h1. unless (ltb 15 t) _ (Evict c t) _ (λ h2. unless (isI (at μ (pos c t) .state)) _ (Evict c t) _ (λ h3. evict-ok c t h3)))
+  rule-ok (Evict c t) =
+      unless (leb (μ .count) c) _ (Evict c t) _ (λ h1. unless (ltb 15 t) _ (Evict c t) _
+      (λ h2. unless (isI (at μ (pos c t) .state)) _ (Evict c t) _ (λ h3. evict-ok c t h3)))
 
   pub step-ok : (op : Op) → StepOk μ op (stepOf μ op)
   unfolding stepOf

@@ -59,7 +59,8 @@ version-rules N x a d small some = rules-top N (version x a d) refl (omega arith
 -- ---- a store over or above the owner o; k is what its slot becomes, after its S-S lines have dropped
 
 module _ {N : ℕ} {μ : Machine} (s : Sound N μ) (c a x e : ℕ) (d : Data) (in-range : c < length (μ .caches)) (small : a < N) (new : μ .lcvid < a)
-    (o : Pos) (is : isOwner x a (at μ o) ≡ true) (good-time : misspeculates a (at μ o) ≡ false) (k : Line) (k-rules : LineRules N k) (k-of : (k ≡ empty) ⊎ (k .address ≡ x)) (slot : freeSlot (put o k (bared μ x o)) c ≡ Slot e) where
+    (o : Pos) (is : isOwner x a (at μ o) ≡ true) (good-time : misspeculates a (at μ o) ≡ false) (k : Line) (k-rules : LineRules N k)
+    (k-of : (k ≡ empty) ⊎ (k .address ≡ x)) (slot : freeSlot (put o k (bared μ x o)) c ≡ Slot e) where
   up : μ .lcvid ≤ a
   up = omega arith
 
@@ -82,7 +83,9 @@ module _ {N : ℕ} {μ : Machine} (s : Sound N μ) (c a x e : ℕ) (d : Data) (i
   dropped = shares-dropped s (λ p l. isShare x (at μ o .m) l) a x (λ p l i. let t = share-test x (at μ o .m) l .says i in (t .0, t .1 .0))
 
   same-o : at δ o ≡ at μ o
-  same-o = drop-stays (λ p l. isShare x (at μ o .m) l) μ o (by-test (isShare x (at μ o .m) (at μ o)) (λ i. owns-not-ss (at μ o .state) (O .owning) (share-test x (at μ o .m) (at μ o) .says i .0)) (λ i. i))
+  same-o =
+      drop-stays (λ p l. isShare x (at μ o .m) l) μ o (by-test (isShare x (at μ o .m) (at μ o))
+      (λ i. owns-not-ss (at μ o .state) (O .owning) (share-test x (at μ o .m) (at μ o) .says i .0)) (λ i. i))
 
   owner-δ : OwnerAt (at δ) (δ .lcvid) x a o
   owner-δ = subst (λ (lc : ℕ). OwnerAt (at δ) lc x a o) (sym (dropped .last)) (owner-like (like-same 0 same-o) (rw same-o (O .here)) O)
@@ -95,7 +98,8 @@ module _ {N : ℕ} {μ : Machine} (s : Sound N μ) (c a x e : ℕ) (d : Data) (i
 
   bare : (p : Pos) → Here (δ .lcvid) x (at δ p) → isSS (at δ p .state) ≡ true → at δ p .m ≢ at δ o .m
   bare p h i j = by-test (isShare x (at μ o .m) (at μ p)) (λ z. not-here (δ .lcvid) x (rw (drop-gone (λ p l. isShare x (at μ o .m) l) μ p z) at h))
-      (λ z. let q = drop-stays (λ p l. isShare x (at μ o .m) l) μ p z in not-both (share-test x (at μ o .m) (at μ p) .when (rw q at i, (rw q at (h .at), sym (ap (λ (t : Line). t .m) q) ∙ j ∙ rw same-o refl))) z)
+      (λ z. let q = drop-stays (λ p l. isShare x (at μ o .m) l) μ p z in not-both
+      (share-test x (at μ o .m) (at μ p) .when (rw q at i, (rw q at (h .at), sym (ap (λ (t : Line). t .m) q) ∙ j ∙ rw same-o refl))) z)
 
   width : c < length (ε .caches)
   width = rw (put-width δ o k, drop-width (λ p l. isShare x (at μ o .m) l) μ) in-range
@@ -128,7 +132,9 @@ module _ {N : ℕ} {μ : Machine} (s : Sound N μ) (c a x e : ℕ) (d : Data) (i
 
   -- it is the store's own version, and its slot was emptied
   over-law : k ≡ empty → at μ o .m ≡ a → Writes N μ ν a x d
-  over-law i j = stored (writes-over (good (dropped .sound) x) a d new-δ o n (owner-δ .here) top-δ unread-δ bare new-n rest (rw same-o j) (λ z. at-put-other ε n o (version x a d) z ∙ at-o ∙ i) (λ h. go h (pos-dec n o)))
+  over-law i j =
+      stored (writes-over (good (dropped .sound) x) a d new-δ o n (owner-δ .here) top-δ unread-δ bare new-n rest (rw same-o j)
+      (λ z. at-put-other ε n o (version x a d) z ∙ at-o ∙ i) (λ h. go h (pos-dec n o)))
     where
       go : Here (δ .lcvid) x (at δ n) → Dec (n ≡ o) → n ≡ o
       go h (yes z) = z
@@ -136,7 +142,9 @@ module _ {N : ℕ} {μ : Machine} (s : Sound N μ) (c a x e : ℕ) (d : Data) (i
 
   -- it was closed at a in its slot
   split-law : k ≡ closed a (at μ o) → at μ o .m < a → Writes N μ ν a x d
-  split-law i j = stored (writes-split (good (dropped .sound) x) a d new-δ o n (owner-δ .here) top-δ unread-δ bare new-n rest (rw same-o j) apart (free-n (λ z. apart (sym z))) (at-put-other ε n o (version x a d) apart ∙ at-o ∙ i ∙ rw same-o refl))
+  split-law i j =
+      stored (writes-split (good (dropped .sound) x) a d new-δ o n (owner-δ .here) top-δ unread-δ bare new-n rest (rw same-o j) apart (free-n (λ z. apart (sym z)))
+      (at-put-other ε n o (version x a d) apart ∙ at-o ∙ i ∙ rw same-o refl))
     where
       alive-o : Here (δ .lcvid) x k
       alive-o = rw i (record { alive = record { some = refl; fresh = λ r. new-δ }; at = O .here .at })
@@ -173,7 +181,9 @@ module _ {N : ℕ} {μ : Machine} (s : Sound N μ) (c a x e f : ℕ) (d : Data) 
   at-e = replaced-new μ x c e old slot in-range refl
 
   two : pos c e ≢ pos c f
-  two z = not-both (live-test (β .lcvid) (at β (pos c f)) .when (rw (← z, at-e) (record { some = refl; fresh = λ r. omega (arith, last-β) }))) (placed-free β c f (version x a d) slot′ width-β)
+  two z =
+      not-both (live-test (β .lcvid) (at β (pos c f)) .when (rw (← z, at-e) (record { some = refl; fresh = λ r. omega (arith, last-β) })))
+      (placed-free β c f (version x a d) slot′ width-β)
 
   only : (q : Pos) → Here (μ .lcvid) x (at γ q) → (q ≡ pos c e) ⊎ (q ≡ pos c f)
   only q h = go (pos-dec q (pos c f))
@@ -184,17 +194,21 @@ module _ {N : ℕ} {μ : Machine} (s : Sound N μ) (c a x e f : ℕ) (d : Data) 
 
   first-law : Writes N μ γ a x d
   first-law = local-writes s (local-trans (replaced-local μ x c e old slot in-range refl) (placed-local β c f (version x a d) slot′ width-β x refl))
-      (put-fits β (pos c f) (version x a d) (version-rules N x a d small (omega arith)) (replaced-fits μ x c e old slot in-range refl (rules-closed N x 0 a (plainData μ x) (omega arith) small) (s .fits)))
+      (put-fits β (pos c f) (version x a d) (version-rules N x a d small (omega arith))
+      (replaced-fits μ x c e old slot in-range refl (rules-closed N x 0 a (plainData μ x) (omega arith) small) (s .fits)))
       a d (put-memory β (pos c f) (version x a d) x ∙ replaced-memory μ x c e old slot in-range refl)
       (writes-first a (plainData μ x) d new (pos c e) (pos c f) two (at-put-other β (pos c f) (pos c e) (version x a d) two ∙ at-e) (placed-new β c f (version x a d) slot′ width-β) only
-      (λ b v i k. quiet-flat s x a up′ quiet b i v k ∙ sym (plain-view s x a up′ none)) (quiet-unmarked μ x quiet)) up′ (λ b i. quiet-flat s x a up′ quiet b (omega arith) (view μ x b) (view-sees s x b (omega arith)))
+      (λ b v i k. quiet-flat s x a up′ quiet b i v k ∙ sym (plain-view s x a up′ none)) (quiet-unmarked μ x quiet)) up′
+      (λ b i. quiet-flat s x a up′ quiet b (omega arith) (view μ x b) (view-sees s x b (omega arith)))
 
 -- ---- a plain store, above whose LCVID nothing is marked
 
-plain-law : {N : ℕ} {μ : Machine} (s : Sound N μ) (c x e : ℕ) (d : Data) → c < length (μ .caches) → ((b : ℕ) → μ .lcvid < b → Marked μ x b → ⊥) → ((b : ℕ) → μ .lcvid ≤ b → view μ x b ≡ view μ x (μ .lcvid))
+plain-law : {N : ℕ} {μ : Machine} (s : Sound N μ) (c x e : ℕ) (d : Data) → c < length (μ .caches) → ((b : ℕ) → μ .lcvid < b → Marked μ x b → ⊥)
+    → ((b : ℕ) → μ .lcvid ≤ b → view μ x b ≡ view μ x (μ .lcvid))
     → freeSlot (drop (isOf x) μ) c ≡ Slot e → Writes N μ (put (pos c e) (line M x 0 0 d) (drop (isOf x) μ)) (μ .lcvid) x d
 plain-law {N} {μ} s c x e d in-range none flat slot =
-    local-writes s (replaced-local μ x c e l slot in-range refl) (replaced-fits μ x c e l slot in-range refl (rules-plain N l refl refl refl) (s .fits)) (μ .lcvid) d (replaced-memory μ x c e l slot in-range refl) W (omega arith) flat
+    local-writes s (replaced-local μ x c e l slot in-range refl) (replaced-fits μ x c e l slot in-range refl (rules-plain N l refl refl refl) (s .fits)) (μ .lcvid) d
+    (replaced-memory μ x c e l slot in-range refl) W (omega arith) flat
   where
     l : Line
     l = line M x 0 0 d
@@ -222,7 +236,8 @@ module _ {N : ℕ} {μ : Machine} (s : Sound N μ) (vid : Bool) (c a x : ℕ) (d
 
   split : vid ≡ true → (o : Pos) → isOwner x a (at μ o) ≡ true → misspeculates a (at μ o) ≡ false → (isSM (at μ o .state) && eqb a (at μ o .m)) ≡ false
       → (e : ℕ) → freeSlot (put o (closed a (at μ o)) (bared μ x o)) c ≡ Slot e → Ok (gives Done (put (pos c e) (version x a d) (put o (closed a (at μ o)) (bared μ x o))))
-  split v o is n j e slot = wrote _ (split-law s c a x e d in-range small (above v) o is n (closed a (at μ o)) (rules-closed N _ _ a _ below small) (inr (own .here .at)) slot refl below)
+  split v o is n j e slot =
+      wrote _ (split-law s c a x e d in-range small (above v) o is n (closed a (at μ o)) (rules-closed N _ _ a _ below small) (inr (own .here .at)) slot refl below)
     where
       own : OwnerAt (at μ) (μ .lcvid) x a o
       own = owner-at s x a (omega (arith, above v)) o is
@@ -248,8 +263,11 @@ module _ {N : ℕ} {μ : Machine} (s : Sound N μ) (vid : Bool) (c a x : ℕ) (d
       ν : Machine
       ν = put (pos c e) (line M x 0 0 d) (drop (isOf x) μ)
 
-  plain-owned : vid ≡ false → (o : Pos) → isOwner x a (at μ o) ≡ true → misspeculatesPlain μ (at μ o) ≡ false → (e : ℕ) → freeSlot (drop (isOf x) μ) c ≡ Slot e → Ok (gives Done (put (pos c e) (line M x 0 0 d) (drop (isOf x) μ)))
-  plain-owned v o is n = plain v (λ b i k. omega (arith, t .1, mark-on (good s x) o (own .here) (t .0) b k)) (λ b i. top-flat s x (μ .lcvid) (omega arith) o (subst (λ (b : ℕ). OwnerAt (at μ) (μ .lcvid) x b o) (plainly v) own) (t .0) b i)
+  plain-owned : vid ≡ false → (o : Pos) → isOwner x a (at μ o) ≡ true → misspeculatesPlain μ (at μ o) ≡ false → (e : ℕ) → freeSlot (drop (isOf x) μ) c ≡ Slot e
+      → Ok (gives Done (put (pos c e) (line M x 0 0 d) (drop (isOf x) μ)))
+  plain-owned v o is n =
+      plain v (λ b i k. omega (arith, t .1, mark-on (good s x) o (own .here) (t .0) b k))
+      (λ b i. top-flat s x (μ .lcvid) (omega arith) o (subst (λ (b : ℕ). OwnerAt (at μ) (μ .lcvid) x b o) (plainly v) own) (t .0) b i)
     where
       own : OwnerAt (at μ) (μ .lcvid) x a o
       own = owner-at s x a (omega (arith, plainly v)) o is
@@ -264,4 +282,6 @@ module _ {N : ℕ} {μ : Machine} (s : Sound N μ) (vid : Bool) (c a x : ℕ) (d
       quiet′ = unowned s x a (omega (arith, plainly v)) none
 
   pub store-law : StoreOutcome N μ a x d (storeOf μ vid c a x d)
-  store-law = store-cases Ok μ vid c a x d (record { misspec = λ o is. misspeculated; over = over; split = split; first = first; plain-owned = plain-owned; plain-unowned = plain-unowned; full = no-room })
+  store-law =
+      store-cases Ok μ vid c a x d (record
+      { misspec = λ o is. misspeculated; over = over; split = split; first = first; plain-owned = plain-owned; plain-unowned = plain-unowned; full = no-room })

@@ -104,5 +104,8 @@ module _ {N : ℕ} {μ : Machine} (s : Sound N μ) (x a : ℕ) (up : μ .lcvid �
       go (from-memory n e) = from-memory (λ p h. record { same = n p h .same; later = λ o. absurd (quiet p h (owns-spec (at μ p .state) o)) }) e
 
 -- the owner is S-M or S-E: every number above a
-pub top-flat : {N : ℕ} {μ : Machine} → Sound N μ → (x a : ℕ) → μ .lcvid ≤ a → (o : Pos) → OwnerAt (at μ) (μ .lcvid) x a o → top (at μ o .state) ≡ true → (b : ℕ) → a ≤ b → view μ x b ≡ view μ x a
-top-flat {μ = μ} s x a up o O t b i = sym (owner-view s x b (omega arith) o (record { here = O .here; owning = O .owning; hit = top-hits b (at μ o) t (omega (arith, O .hit .from)) })) ∙ owner-view s x a up o O
+pub top-flat : {N : ℕ} {μ : Machine} → Sound N μ → (x a : ℕ) → μ .lcvid ≤ a → (o : Pos) → OwnerAt (at μ) (μ .lcvid) x a o → top (at μ o .state) ≡ true → (b : ℕ) → a ≤ b
+    → view μ x b ≡ view μ x a
+top-flat {μ = μ} s x a up o O t b i =
+    sym (owner-view s x b (omega arith) o (record { here = O .here; owning = O .owning; hit = top-hits b (at μ o) t (omega (arith, O .hit .from)) })) ∙ owner-view s x a
+    up o O
