@@ -1,10 +1,13 @@
 -- What the project promises of the rules, in one place: each statement, and its proof in a line. The words are those of specs/.
 -- Assumes nothing.
-use mathlib.Core.Path.{_≡_, refl, _∙_, ap}
+use mathlib.Core.Path.{_≡_, refl, sym, _∙_, ap}
 use mathlib.Core.Logic.{_⊎_, inl, inr}
-use mathlib.Core.Bool.{true}
+use mathlib.Core.Bool.{true, _&&_}
 use Prim.Native.Nat.{ℕ, _≤_}
-use lib.ListN.{getD}
+use native.Mathlib.Omega.{arith}
+use lib.Dec.{leb}
+use lib.ListN.{length, getD, replicate}
+use borrow.Author.Tests.{leb-true}
 use Rattle.rules.specs.declared.Machine.{Machine}
 use Rattle.rules.specs.declared.Pos.{Pos}
 use Rattle.rules.specs.declared.Op.{Op}
@@ -16,13 +19,15 @@ use Rattle.rules.specs.declared.Reason.the-variants.{NoRoom}
 use Rattle.rules.specs.Data.{Data, noData, read, lineOf, wordOf}
 use Rattle.rules.specs.States.{spec}
 use Rattle.rules.specs.Line.{isOwner}
-use Rattle.rules.specs.Machine.{at, vids, fresh}
+use Rattle.rules.specs.Machine.{at, vids, fresh, makeOf}
 use Rattle.rules.specs.House.{Sized, Lives, One, House}
 use Rattle.rules.specs.HouseTest.{isSound}
 use Rattle.rules.specs.Step.{actsWith, hasVid, ruleOf, stepOf}
 use Rattle.rules.specs.Load.{loadOf}
 use Rattle.rules.specs.Store.{storeOf, newData}
 use Rattle.rules.specs.Flights.{Demand3}
+use mathlib.Core.List.{List}
+use Rattle.rules.proofs.base.Bools.{left, right, by-test}
 use Rattle.rules.proofs.base.Tests.{Decides}
 use Rattle.rules.proofs.base.Lines.{live-test}
 use Rattle.rules.proofs.history.Agree.{serializable}
@@ -33,6 +38,17 @@ use Rattle.rules.proofs.machines.LoadLaw.{LoadOutcome, returns, no-room
 use Rattle.rules.proofs.machines.Admitted.{Admitted, passes-3, passes-4, passes-6, passes-7, admitted, step-unchanged}
 use Rattle.rules.proofs.machines.Fresh.{fresh-sound, fresh-view}
 use Rattle.rules.proofs.machines.House.{house-sound, sound-house, sound-sized, house-decides}
+
+-- a contract `result ≡ definition` leaves one possible result
+pub one-result : {A : Type 0} {definition r s : A} → r ≡ definition → s ≡ definition → r ≡ s
+one-result p q = p ∙ sym q
+
+-- making a machine gives a sound one, refused or not
+pub make-sound : (n : ℕ) (words : List Data) → length words ≡ 64 → House (makeOf n words .machine)
+unfolding makeOf
+make-sound n words all = by-test (leb 1 n && leb n 4)
+    (λ i. rw i (sound-house (fresh-sound n words (leb-true 1 n (left (leb 1 n) (leb n 4) i)) (leb-true n 4 (right (leb 1 n) (leb n 4) i)) all)))
+    (λ i. rw i (sound-house (fresh-sound 1 (replicate 64 noData) (omega arith) (omega arith) refl)))
 
 -- the test that code computes decides the house rules in document 01's words: refusal 2 is given exactly when a machine is not sound
 pub house : (μ : Machine) → Sized μ → Decides (isSound μ) (House μ)

@@ -1,9 +1,10 @@
 -- The machine: its lines by place, how they change, drop, are found and are placed; memory; a fresh machine.
 -- A machine is built here alone: `withCaches`, `write`, `withLcvid`, `fresh`.
 -- Assumes nothing.
-use mathlib.Core.Bool.{Bool, true, false, cond, not}
+use mathlib.Core.Bool.{Bool, true, false, cond, _&&_, not}
 use mathlib.Core.List.{List, []}
 use Prim.Native.Nat.{ℕ}
+use lib.Dec.{leb}
 use lib.ListN.{getD, set, replicate}
 use Rattle.rules.specs.declared.Line.{Line}
 use Rattle.rules.specs.declared.Cache.{Cache}
@@ -14,8 +15,8 @@ use Rattle.rules.specs.declared.Found.the-variants.{At, Nowhere}
 use Rattle.rules.specs.declared.Room.{Room}
 use Rattle.rules.specs.declared.Room.the-variants.{Slot, Full}
 use Rattle.rules.specs.declared.Answer.{Answer}
-use Rattle.rules.specs.declared.Answer.the-variants.{Refused}
-use Rattle.rules.specs.declared.Reason.the-variants.{NoRoom}
+use Rattle.rules.specs.declared.Answer.the-variants.{Done, Refused}
+use Rattle.rules.specs.declared.Reason.the-variants.{CacheCount, NoRoom}
 use Rattle.rules.specs.declared.Answered.{Answered}
 use Rattle.rules.specs.Data.{Data, noData}
 use Rattle.rules.specs.Line.{empty, live}
@@ -110,3 +111,7 @@ placeTwo μ r c k l δ = placedTwoIn μ r c k l δ (freeSlot δ c)
 
 unfoldable pub fresh : ℕ → List Data → Machine
 fresh n words = record { caches = replicate 4 (record { lines = replicate 16 empty }); count = n; lcvid = 0; memory = words }
+
+-- making one: refusal 1 where the caches are not 1 to 4; "1 hands back a fresh one-cache machine with zero memory"
+unfoldable pub makeOf : ℕ → List Data → Answered
+makeOf n words = cond (leb 1 n && leb n 4) (gives Done (fresh n words)) (gives (Refused CacheCount) (fresh 1 (replicate 64 noData)))
