@@ -6,7 +6,7 @@ mod seeks;
 
 pub use changes::Change;
 use changes::changed_line;
-use changes::empty_line;
+pub use changes::empty_line;
 use lines::is_live;
 use rules::Answer;
 use rules::Answered;
