@@ -41,21 +41,26 @@ module _ (μ : Machine) (w : Shape μ) where
       go (yes c) (no s) = inr (List·getD-eq-default (getD (μ .caches) (p .cache) noCache .lines) empty (omega (arith, w .lines (p .cache) c)))
 
   all-numbered : (k : Pos → Line → Bool) → ((p : Pos) → k p empty ≡ true) → allLines k μ ≡ allBelow 64 (λ i. k (posOf i) (lineNo μ i))
-  all-numbered k e = same-test (all-lines k (λ p l. k p l ≡ true) μ (λ p l. is-test (k p l)) e) (all-test (λ i. k (posOf i) (lineNo μ i)) 64) (λ h i q. h (posOf i)) (λ h p. from h p (slot p))
+  all-numbered k e =
+      same-test (all-lines k (λ p l. k p l ≡ true) μ (λ p l. is-test (k p l)) e) (all-test (λ i. k (posOf i) (lineNo μ i)) 64)
+      (λ h i q. h (posOf i)) (λ h p. from h p (slot p))
     where
       from : ((i : ℕ) → i < 64 → k (posOf i) (lineNo μ i) ≡ true) → (p : Pos) → Slot p ⊎ (at μ p ≡ empty) → k p (at μ p) ≡ true
       from h p (inl q) = rw (← q .place) (h (q .number) (q .small))
       from h p (inr q) = rw q (e p)
 
   any-numbered : (k : Pos → Line → Bool) → ((p : Pos) → k p empty ≡ false) → anyLine k μ ≡ anyBelow 64 (λ i. k (posOf i) (lineNo μ i))
-  any-numbered k e = same-test (any-line k (λ p l. k p l ≡ true) μ (λ p l. is-test (k p l)) (λ p h. false≢true (rw (← e p) h))) (any-test (λ i. k (posOf i) (lineNo μ i)) 64) (λ h. from (h .0) (h .1) (slot (h .0))) (λ h. (posOf (h .0), h .2))
+  any-numbered k e =
+      same-test (any-line k (λ p l. k p l ≡ true) μ (λ p l. is-test (k p l)) (λ p h. false≢true (rw (← e p) h))) (any-test (λ i. k (posOf i) (lineNo μ i)) 64)
+      (λ h. from (h .0) (h .1) (slot (h .0))) (λ h. (posOf (h .0), h .2))
     where
       from : (p : Pos) → k p (at μ p) ≡ true → Slot p ⊎ (at μ p ≡ empty) → (i : ℕ) × (i < 64) × (k (posOf i) (lineNo μ i) ≡ true)
       from p h (inl q) = (q .number, q .small, rw (q .place) h)
       from p h (inr q) = absurd (false≢true (rw (← e p, ← q) h))
 
   -- a live line of the address passes
-  some-numbered : (x : ℕ) (t : Pos → Line → Bool) → some μ x t ≡ anyBelow 64 (λ j. live (μ .lcvid) (lineNo μ j) && (eqb (lineNo μ j .address) x && t (posOf j) (lineNo μ j)))
+  some-numbered : (x : ℕ) (t : Pos → Line → Bool) → some μ x t
+      ≡ anyBelow 64 (λ j. live (μ .lcvid) (lineNo μ j) && (eqb (lineNo μ j .address) x && t (posOf j) (lineNo μ j)))
   unfolding some
   some-numbered x t = any-numbered (λ q l. live (μ .lcvid) l && (eqb (l .address) x && t q l)) (λ q. unfold live in refl)
 

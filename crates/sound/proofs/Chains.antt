@@ -33,8 +33,8 @@ first-down f key n r other w = record { from = omega (arith, w .from); until = w
 
 -- ---- an array from n on, with one place more
 
-from-set : {A : Type 0} (xs : List A) (d : A) (P : ℕ → A → Type 0) (n : ℕ) (v : A) → n < length xs → P n v → ((j : ℕ) → suc n ≤ j → j < 64 → P j (getD xs j d))
-    → (j : ℕ) → n ≤ j → j < 64 → P j (getD (set xs n v) j d)
+from-set : {A : Type 0} (xs : List A) (d : A) (P : ℕ → A → Type 0) (n : ℕ) (v : A) → n < length xs → P n v
+    → ((j : ℕ) → suc n ≤ j → j < 64 → P j (getD xs j d)) → (j : ℕ) → n ≤ j → j < 64 → P j (getD (set xs n v) j d)
 from-set xs d P n v room e was j h q = go (ℕ-discrete j n)
   where
     go : Dec (j ≡ n) → P j (getD (set xs n v) j d)
@@ -58,7 +58,8 @@ pub gathers-at : (μ : Machine) (n m : ℕ) (fits : Bool) (ls : List Line) (fs n
 gathers-at μ n m fits ls fs ns e g = rw (← e) g
 
 module _ (μ : Machine) (n : ℕ) (fits : Bool) (ls : List Line) (fs ns : List ℕ) (g : Gathers μ (suc n) fits ls fs ns) (h : n < 64) where
-  pub gathers-more : (slot : Bool) (key : ℕ) (l : Line) → slot ≡ slotNo μ n → key ≡ keyNo μ n → key < 65 → l ≡ lineNo μ n → Gathers μ n (fits && slot) (set ls n l) (set fs key n) (set ns n (getD fs key 0))
+  pub gathers-more : (slot : Bool) (key : ℕ) (l : Line) → slot ≡ slotNo μ n → key ≡ keyNo μ n → key < 65 → l ≡ lineNo μ n
+      → Gathers μ n (fits && slot) (set ls n l) (set fs key n) (set ns n (getD fs key 0))
   unfolding allBelow
   gathers-more slot key l e f k i = record {
     fit = rw e (and-assoc fits (slotNo μ n) (allBelow n (slotNo μ)) ∙ g .fit);

@@ -20,7 +20,8 @@ use Rattle.rules.proofs.Machine as X
 sixteen : (h : Cache) (vs : List Val) → Is (row C.the-type) h vs → length (h .lines) ≡ 16
 sixteen h vs p = sym (length-map (h .lines) _) ∙ p .1 .1 .0 .1 .0 .1
 
-each-sixteen : (hs : List Cache) (us : List Val) → shadow (each _ (C.the-field .row .own) (map (C.the-field .into) hs) us) → (c : ℕ) → c < length hs → length (getD hs c noCache .lines) ≡ 16
+each-sixteen : (hs : List Cache) (us : List Val) → shadow (each _ (C.the-field .row .own) (map (C.the-field .into) hs) us)
+    → (c : ℕ) → c < length hs → length (getD hs c noCache .lines) ≡ 16
 each-sixteen [] us p c h = absurd (not-suc-le-zero h)
 each-sixteen (k ∷ hs) [] p c h = absurd p
 each-sixteen (k ∷ hs) (u ∷ us) p zero h = sixteen k _ (p .0)

@@ -6,6 +6,7 @@ use Prim.Native.Nat.{ℕ, _≤_, _<_}
 use native.Mathlib.Omega.{arith}
 use lib.Dec.{ltb}
 use borrow.Author.Tests.{ltb-true}
+use Rattle.rules.specs.declared.State.{State}
 use Rattle.rules.specs.declared.Line.{Line}
 use Rattle.rules.specs.declared.Machine.{Machine}
 use Rattle.rules.specs.States.{isI, isSO, isSS, plain, top}
@@ -23,7 +24,10 @@ high N l r =
     (λ i. by-test (plain (l .state)) (λ t. omega (arith, r .flat t .1))
     (λ p. by-test (isSO (l .state)) (λ t. omega (arith, r .closed t .1))
     (λ o. by-test (isSS (l .state)) (λ t. r .shared t .1)
-    (λ s. omega (arith, r .newest (state-rule (λ s. not (isI s) && (not (plain s) && (not (isSO s) && not (isSS s)))) top refl (l .state) (both (neg i) (both (neg p) (both (neg o) (neg s))))) .1)))))
+    (λ s. omega (arith, r .newest (rest (l .state) (both (neg i) (both (neg p) (both (neg o) (neg s))))) .1)))))
+  where
+    rest : (s : State) → (not (isI s) && (not (plain s) && (not (isSO s) && not (isSS s)))) ≡ true → top s ≡ true
+    rest = state-rule (λ s. not (isI s) && (not (plain s) && (not (isSO s) && not (isSS s)))) top refl
 
 pub record Small (l : Line) : Type 0 where
   pub address : l .address < 64

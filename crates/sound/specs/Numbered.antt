@@ -98,7 +98,7 @@ standsNo μ i = imp (live (μ .lcvid) k) (seen .fits && met k (sameData (k .word
 
 -- ---- the lines of an address, chained
 
--- a live line's address, where it is one; 64 for every other line
+-- a live line's address, where that is below 64; 64 for every other line
 unfoldable pub keyOf : ℕ → Line → ℕ
 keyOf lc l = cond (live lc l && ltb (l .address) 64) (l .address) 64
 

@@ -54,7 +54,7 @@ pub(crate) fn slot_fits(used: bool, l: Line) -> bool
     (used | i) & ((l.address < 64) & fits)
 }
 
-// Where number i stands: slot i % 16 of cache i / 16.
+// Where the line of number i stands: slot i % 16 of cache i / 16.
 pub(crate) fn place(i: usize) -> Pos
     ensures { λ r. ⌜ r ≡ posOf i ⌝ }
 {
@@ -64,7 +64,7 @@ pub(crate) fn place(i: usize) -> Pos
     }
 }
 
-// A live line's address, where it is one; 64 for every other line.
+// A live line's address, where that is below 64; 64 for every other line.
 pub(crate) fn key_of(lcvid: u64, l: Line) -> usize
     ensures { λ r. ⌜ (r ≡ keyOf lcvid l) × (r < 65) ⌝ }
 {
@@ -109,7 +109,8 @@ fn pair_fits(p: Pos, q: Pos, k: Line, l: Line) -> bool
     table & (plains & (ranges & shares))
 }
 
-// l is the owner line of the S-S k: in another cache, with its m and its word, and k ends no later than it may.
+// l is the owner line of the S-S k: in another cache, with its m and its word, and k's h is at most the larger of l's h and LCVID, plus 1; for an
+// S-O owner also at most l's h.
 fn owns_it(lcvid: u64, p: Pos, k: Line, q: Pos, l: Line) -> bool
     requires { ⌜ (lcvid < 64) × (l .h < 65) ⌝ }
     ensures { λ r. ⌜ r ≡ ownsIt lcvid p k q l ⌝ }
@@ -125,16 +126,22 @@ fn owns_it(lcvid: u64, p: Pos, k: Line, q: Pos, l: Line) -> bool
 
 // ---- what a live line sees of the live lines of its address
 
-// Every other one fits beside it; one is an O, an S-M or S-E, an owner with m up to LCVID, an owner that starts at its h, its owner line.
 pub(crate) struct Seen {
+    // Every other one fits beside it.
     pub(crate) fits: bool,
+    // One is an O.
     pub(crate) o: bool,
+    // One is an S-M or S-E.
     pub(crate) top: bool,
+    // One is an owner with m up to LCVID.
     pub(crate) low: bool,
+    // One is an owner that starts where it ends.
     pub(crate) next: bool,
+    // One is its owner line.
     pub(crate) owner: bool,
 }
 
+// What it has seen before it looks.
 pub(crate) const NOTHING: Seen = Seen {
     fits: true,
     o: false,
@@ -160,8 +167,8 @@ pub(crate) fn see(lcvid: u64, p: Pos, k: Line, q: Pos, l: Line, seen: Seen) -> S
         fits: (!other | fits) & seen.fits,
         o: o | seen.o,
         top: top | seen.top,
-        low: owns & (l.m <= lcvid) | seen.low,
-        next: owns & (l.m == k.h) | seen.next,
+        low: (owns & (l.m <= lcvid)) | seen.low,
+        next: (owns & (l.m == k.h)) | seen.next,
         owner: owner | seen.owner,
     }
 }

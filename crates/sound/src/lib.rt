@@ -20,6 +20,7 @@ ghost use Prim.Native.Nat.{_<_};
 ghost use Rattle.rules.specs.HouseTest.{isSound};
 ghost use Rattle.sound.specs.Numbered.{allBelow, standsNo, Gathers};
 
+// An empty slot is zero in all other fields.
 const EMPTY: Line = Line {
     state: State::I,
     address: 0,
@@ -28,8 +29,8 @@ const EMPTY: Line = Line {
     word: 0,
 };
 
-// The 64 lines in one row, slot i % 16 of cache i / 16 at i, and whether each fits by itself. The live lines of an address are chained: the lowest is
-// at `first[address]`, and the next one after i at `next[i]`, where 64 is none. All other lines are chained from `first[64]`.
+// The 64 lines in one row, slot s of cache c at 16 c + s, and whether each fits by itself. The live lines of an address are chained: its lowest stands
+// at `first[address]`, and the next one after i at `next[i]`; 64 is none. All other lines are chained from `first[64]`, where nobody looks.
 struct Row {
     fits: bool,
     lines: [Line; 64],
@@ -37,7 +38,7 @@ struct Row {
     next: [usize; 64],
 }
 
-// From the last slot down, so that the chains go up.
+// The row of a machine, from its last slot down, so that the chains go up.
 fn gather(machine: Machine) -> Row
     ensures { λ r. ⌜ Gathers machine 0 (r .fits) (r .lines) (r .first) (r .next) ⌝ }
 {
@@ -103,7 +104,7 @@ fn all_stand(machine: Machine, row: Row) -> bool
     stand
 }
 
-// The machine keeps the house rules.
+// The machine keeps the house rules, whatever its numbers are.
 pub fn is_sound(machine: Machine) -> bool
     ensures { λ r. ⌜ r ≡ isSound machine ⌝ }
 {

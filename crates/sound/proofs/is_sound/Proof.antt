@@ -47,7 +47,8 @@ gather-requires c κs = search needs
 returns-2 : tie.Need-returns-2
 returns-2 c =
     let g = c .before .before in
-    no-fit _ (shape _ _ (g .before .before .before .before .before .good .0)) (not-false _ (g .before .if1 .left)) _ _ _ _ (g .gather .ensures) (not-true _ (c .if2 .taken))
+    let w = shape _ _ (g .before .before .before .before .before .good .0) in
+    no-fit _ w (not-false _ (g .before .if1 .left)) _ _ _ _ (g .gather .ensures) (not-true _ (c .if2 .taken))
 
 all-stand-requires : tie.Need-all-stand-requires
 all-stand-requires c κs =
@@ -59,7 +60,8 @@ all-stand-requires c κs =
 returns-3 : tie.Need-returns-3
 returns-3 c =
     let g = c .before .before .before in
-    each _ (shape _ _ (g .before .before .before .before .before .good .0)) (not-false _ (g .before .if1 .left)) _ _ _ _ (g .gather .ensures) (not-false _ (c .before .if2 .left)) _ (c .all-stand .ensures)
+    let w = shape _ _ (g .before .before .before .before .before .good .0) in
+    each _ w (not-false _ (g .before .if1 .left)) _ _ _ _ (g .gather .ensures) (not-false _ (c .before .if2 .left)) _ (c .all-stand .ensures)
 
 pub is-sound-spec : {M : Type 1} → statement M
 is-sound-spec = tie.close (tie.spec returns gather-requires returns-2 all-stand-requires returns-3)

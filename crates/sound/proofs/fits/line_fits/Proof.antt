@@ -28,7 +28,14 @@ returns : tie.Need-returns
 unfolding lineFits sameData
 returns c =
     let k = c .before .before .before .before .before .before .before .before .before .before .before .before .before .before in
-    rw (k .is-ss .ensures, k .before .is-so .ensures, k .before .before .is-top .ensures, k .before .before .before .is-se .ensures, k .before .before .before .before .is-plain .ensures, k .before .before .before .before .before .is-i .ensures)
+    rw (
+      k .is-ss .ensures,
+      k .before .is-so .ensures,
+      k .before .before .is-top .ensures,
+      k .before .before .before .is-se .ensures,
+      k .before .before .before .before .is-plain .ensures,
+      k .before .before .before .before .before .is-i .ensures,
+    )
 
 pub line-fits-spec : {M : Type 1} → statement M
 line-fits-spec =

@@ -27,7 +27,14 @@ returns : tie.Need-returns
 unfolding met
 returns c =
     let k = c .before .before .before .before .before in
-    rw (k .is-ss .ensures, k .before .is-so .ensures, k .before .before .is-spec .ensures, k .before .before .before .is-s .ensures, k .before .before .before .before .is-se .ensures, k .before .before .before .before .before .is-e .ensures)
+    rw (
+      k .is-ss .ensures,
+      k .before .is-so .ensures,
+      k .before .before .is-spec .ensures,
+      k .before .before .before .is-s .ensures,
+      k .before .before .before .before .is-se .ensures,
+      k .before .before .before .before .before .is-e .ensures,
+    )
 
 pub needs-met-spec : {M : Type 1} → statement M
 needs-met-spec =

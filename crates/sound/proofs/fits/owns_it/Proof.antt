@@ -16,7 +16,9 @@ use Rattle.sound.proofs.fits.owns_it.Statement.{statement}
 use Rattle.sound.proofs.fits.owns_it.Tie as tie
 
 reach : (h a b : ℕ) → (leb h (a + 1) || leb h (b + 1)) ≡ leb h (suc (max a b))
-reach h a b = same-test (or-test (le-test h (a + 1)) (le-test h (b + 1))) (le-test h (suc (max a b))) (⊎-elim (λ p. omega arith) (λ p. omega arith)) (λ p. either (decLe h (a + 1)) p)
+reach h a b =
+    same-test (or-test (le-test h (a + 1)) (le-test h (b + 1))) (le-test h (suc (max a b)))
+    (⊎-elim (λ p. omega arith) (λ p. omega arith)) (λ p. either (decLe h (a + 1)) p)
   where
     either : Dec (h ≤ a + 1) → h ≤ suc (max a b) → (h ≤ a + 1) ⊎ (h ≤ b + 1)
     either (yes q) p = inl q

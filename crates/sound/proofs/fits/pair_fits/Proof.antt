@@ -31,7 +31,15 @@ returns : tie.Need-returns
 unfolding pairFits sameData
 returns c =
     let k = c .before .before .before .before .before .before in
-    rw (k .is-ss2 .ensures, k .before .is-ss .ensures, k .before .before .are-disjoint .ensures, k .before .before .before .can-own2 .ensures, k .before .before .before .before .can-own .ensures, k .before .before .before .before .before .is-plain .ensures, k .before .before .before .before .before .before .may-stand .ensures)
+    rw (
+      k .is-ss2 .ensures,
+      k .before .is-ss .ensures,
+      k .before .before .are-disjoint .ensures,
+      k .before .before .before .can-own2 .ensures,
+      k .before .before .before .before .can-own .ensures,
+      k .before .before .before .before .before .is-plain .ensures,
+      k .before .before .before .before .before .before .may-stand .ensures,
+    )
 
 pub pair-fits-spec : {M : Type 1} → statement M
 pair-fits-spec =

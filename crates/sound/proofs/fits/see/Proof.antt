@@ -24,7 +24,13 @@ returns : tie.Need-returns
 unfolding seeing
 returns c =
     let k = c .before .before .before .before .before .before .before .before .before in
-    rw (k .owns-it .ensures, k .before .can-own .ensures, k .before .before .is-top .ensures, k .before .before .before .is-o .ensures, k .before .before .before .before .pair-fits .ensures)
+    rw (
+      k .owns-it .ensures,
+      k .before .can-own .ensures,
+      k .before .before .is-top .ensures,
+      k .before .before .before .is-o .ensures,
+      k .before .before .before .before .pair-fits .ensures,
+    )
 
 pub see-spec : {M : Type 1} → statement M
 see-spec =
