@@ -48,7 +48,7 @@ pub fn put(machine: Machine, cache: usize, slot: usize, line: Line) -> Machine
     if 4 <= cache {
         return machine;
     }
-    if 16 <= slot {
+    if 15 < slot {
         return machine;
     }
     let mut k = machine.caches[cache];
