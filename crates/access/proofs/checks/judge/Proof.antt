@@ -23,11 +23,15 @@ returns-4 c = rw (lt-leb 64 _ (c .before .before .before .if1 .left), lt-leb _ _
 
 returns-5 : tie.Need-returns-5
 unfolding judged
-returns-5 c = rw (lt-leb 64 _ (c .before .before .before .before .if1 .left), lt-leb _ _ (c .before .before .before .if2 .left), le-ltb 63 _ (c .before .before .if3 .left), lt-leb 64 _ (c .before .if4 .left), c .if5 .taken)
+returns-5 c =
+    let b = c .before .before in
+    rw (lt-leb 64 _ (b .before .before .if1 .left), lt-leb _ _ (b .before .if2 .left), le-ltb 63 _ (b .if3 .left), lt-leb 64 _ (c .before .if4 .left), c .if5 .taken)
 
 returns-6 : tie.Need-returns-6
 unfolding judged
-returns-6 c = rw (lt-leb 64 _ (c .before .before .before .before .if1 .left), lt-leb _ _ (c .before .before .before .if2 .left), le-ltb 63 _ (c .before .before .if3 .left), lt-leb 64 _ (c .before .if4 .left), c .if5 .left)
+returns-6 c =
+    let b = c .before .before in
+    rw (lt-leb 64 _ (b .before .before .if1 .left), lt-leb _ _ (b .before .if2 .left), le-ltb 63 _ (b .if3 .left), lt-leb 64 _ (c .before .if4 .left), c .if5 .left)
 
 pub judge-spec : {M : Type 1} → statement M
 judge-spec = tie.close (tie.spec returns returns-2 returns-3 returns-4 returns-5 returns-6)

@@ -1,0 +1,5 @@
+-- Laws that the proofs of the functions share: bytes stored one after the other, the digits of a number, and a line in a part of a buffer.
+-- Assumes nothing.
+pub mod Sets
+pub mod Digits
+pub mod Parts
