@@ -7,6 +7,5 @@ mod loads;
 mod stores;
 mod words;
 
-pub use checks::Verdict;
 pub use loads::load;
 pub use stores::store;

@@ -9,7 +9,7 @@ use native.Mathlib.Omega.{arith}
 use borrow.Author.Tests.{lt-ltb, le-ltb}
 use lib.Dec.{ltb}
 use lib.ListN.{set, length-append}
-use Rattle.report.specs.Decimal.{digitText, lastDigits}
+use Rattle.rules.specs.Text.{digitText, lastDigits}
 use Rattle.report.specs.Pieces.{Put}
 use Rattle.report.proofs.Sets.{sets-snoc}
 

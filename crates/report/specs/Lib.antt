@@ -1,4 +1,3 @@
 -- The report's text, and what writing a line does to a buffer.
-pub mod Decimal
 pub mod Pieces
 pub mod Report

@@ -10,27 +10,21 @@ use Rattle.rules.specs.declared.Answer.{Answer}
 use Rattle.rules.specs.declared.Answer.the-variants.{Value, Done, Misspec, Overflow, Refused}
 use Rattle.rules.specs.declared.Reason.the-variants.{NoFit}
 use Rattle.rules.specs.Answer.{numberOf, textOf, dataOf}
-use Rattle.report.specs.Decimal.{decimal}
+use Rattle.rules.specs.Text.{lf, dataKey, decimal}
 use Rattle.report.specs.declared.Wrote.{Wrote}
 use Rattle.report.specs.declared.Wrote.the-variants.{Next, Not}
 
 -- ---- the line: "step number from 1, answer, data (the loaded value, else 0), LCVID after the step", "ended by one LF that belongs to the line"
 
--- `step=`, ` answer=`, ` data=`, ` lcvid=`, and LF
+-- `step=`, ` answer=`, ` lcvid=`
 abbrev pub stepKey : List ℕ
 stepKey = 115 ∷ 116 ∷ 101 ∷ 112 ∷ 61 ∷ []
 
 abbrev pub answerKey : List ℕ
 answerKey = 32 ∷ 97 ∷ 110 ∷ 115 ∷ 119 ∷ 101 ∷ 114 ∷ 61 ∷ []
 
-abbrev pub dataKey : List ℕ
-dataKey = 32 ∷ 100 ∷ 97 ∷ 116 ∷ 97 ∷ 61 ∷ []
-
 abbrev pub lcvidKey : List ℕ
 lcvidKey = 32 ∷ 108 ∷ 99 ∷ 118 ∷ 105 ∷ 100 ∷ 61 ∷ []
-
-abbrev pub lf : List ℕ
-lf = 10 ∷ []
 
 -- "value (a load), done (any other step), or instead misspec, overflow, refused-N"
 abbrev pub answerText : Answer → List ℕ

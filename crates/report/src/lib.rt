@@ -8,7 +8,7 @@ ghost use mathlib.Core.Path.{_≡_};
 ghost use Prim.Native.Nat.{_+_, _≤_};
 ghost use lib.ListN.{length};
 ghost use Rattle.rules.specs.Answer.{dataOf};
-ghost use Rattle.report.specs.Decimal.{lastDigits};
+ghost use Rattle.rules.specs.Text.{lastDigits};
 ghost use Rattle.report.specs.Pieces.{Put, Copied};
 ghost use Rattle.report.specs.Report.{answerText, lineText, Writes};
 

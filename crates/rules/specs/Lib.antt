@@ -5,6 +5,7 @@ pub mod Line
 pub mod Lists
 pub mod Machine
 pub mod Answer
+pub mod Text
 pub mod Abort
 pub mod Load
 pub mod Store

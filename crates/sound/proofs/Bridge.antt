@@ -17,10 +17,10 @@ use Rattle.rules.specs.Machine.{noCache, at, anyLine, allLines}
 use Rattle.rules.specs.HouseTest.{imp, lineFits, slotFits, samePos, pairFits, pairsFit, some, needsMet, isSound}
 use Rattle.rules.proofs.base.Tests.{is-test}
 use Rattle.rules.proofs.machines.Places.{all-lines, any-line}
+use Rattle.rules.proofs.Shape.{Shape}
 use Rattle.sound.specs.Numbered.{allBelow, anyBelow, posOf, lineNo, slotNo, seenBelow, met, standsNo}
 use Rattle.sound.proofs.Agree.{same-test}
 use Rattle.sound.proofs.Below.{all-test, any-test}
-use Rattle.sound.proofs.Shape.{Shape}
 use Rattle.sound.proofs.Slots.{place-is}
 
 -- p is one of the 64 slots
@@ -37,8 +37,8 @@ module _ (μ : Machine) (w : Shape μ) where
     where
       go : Dec (p .cache < 4) → Dec (p .slot < 16) → Slot p ⊎ (at μ p ≡ empty)
       go (yes c) (yes s) = inl (record { number = 16 * p .cache + p .slot; small = omega arith; place = place-is (p .cache) (p .slot) s })
-      go (no c) s = inr (rw (List·getD-eq-default (μ .caches) noCache {n = p .cache} (omega (arith, w .caches))))
-      go (yes c) (no s) = inr (List·getD-eq-default (getD (μ .caches) (p .cache) noCache .lines) empty (omega (arith, w .lines (p .cache) c)))
+      go (no c) s = inr (rw (List·getD-eq-default (μ .caches) noCache {n = p .cache} (omega (arith, w .four))))
+      go (yes c) (no s) = inr (List·getD-eq-default (getD (μ .caches) (p .cache) noCache .lines) empty (omega (arith, w .sixteen (p .cache) c)))
 
   all-numbered : (k : Pos → Line → Bool) → ((p : Pos) → k p empty ≡ true) → allLines k μ ≡ allBelow 64 (λ i. k (posOf i) (lineNo μ i))
   all-numbered k e =

@@ -1,7 +1,6 @@
 -- The laws that the functions' proofs cite.
 --     Agree    two tests that decide the same are equal
 --     Below    tests of the numbers below a bound
---     Shape    how many caches and lines a machine has
 --     Slots    slot s of cache c is number 16 c + s
 --     Bridge   the house rules over the numbered slots are `isSound`
 --     Chains   what `gather` gathers, one slot more
@@ -9,7 +8,6 @@
 --     Sight    what a line has seen, one line of its address more
 pub mod Agree
 pub mod Below
-pub mod Shape
 pub mod Slots
 pub mod Bridge
 pub mod Chains

@@ -3,7 +3,7 @@ use rules::State;
 ghost use mathlib.Core.Path.{_≡_};
 ghost use Prim.Native.Nat.{_<_};
 ghost use Rattle.rules.specs.States.{stands};
-ghost use Rattle.sound.specs.Table.{numberOf};
+ghost use Rattle.sound.specs.Table.{rowOf};
 
 // Nine states against nine, in the order I, M, O, E, S, S-M, S-O, S-E, S-S: 1 where two lines of one address may be in them.
 const STANDS: [[u8; 9]; 9] = [
@@ -19,8 +19,8 @@ const STANDS: [[u8; 9]; 9] = [
 ];
 
 // A state's row and column in the table.
-fn number(s: State) -> usize
-    ensures { λ r. ⌜ (r ≡ numberOf s) × (r < 9) ⌝ }
+fn row_of(s: State) -> usize
+    ensures { λ r. ⌜ (r ≡ rowOf s) × (r < 9) ⌝ }
 {
     match s {
         State::I => 0,
@@ -39,7 +39,7 @@ fn number(s: State) -> usize
 pub(crate) fn may_stand(s: State, t: State) -> bool
     ensures { λ r. ⌜ r ≡ stands s t ⌝ }
 {
-    let i = number(s);
-    let j = number(t);
+    let i = row_of(s);
+    let j = row_of(t);
     STANDS[i][j] == 1
 }

@@ -7,6 +7,7 @@ use lib.Dec.{leb, eqb}
 use lib.ListN.{length}
 use Rattle.rules.specs.declared.Op.{Op}
 use Rattle.rules.specs.declared.Op.the-variants.{Load, Store, Commit, Abort, Reset, Evict}
+use Rattle.rules.specs.Text.{lf, dataKey}
 use Rattle.trace.specs.declared.numbers.Parsed.{Parsed}
 use Rattle.trace.specs.declared.numbers.Parsed.the-variants.{Number, Bad}
 use Rattle.trace.specs.declared.First.{First}
@@ -19,7 +20,7 @@ use Rattle.trace.specs.declared.Named.{Named}
 use Rattle.trace.specs.declared.Named.the-variants.{OfKind, Unknown}
 use Rattle.trace.specs.Numbers.{standsAt, fieldAt}
 
--- ---- keys, in ASCII: `caches=`, ` cache=`, ` vid=`, ` at=`, ` data=`, and LF
+-- ---- keys, in ASCII: `caches=`, ` cache=`, ` vid=`, ` at=`
 
 abbrev pub cachesKey : List ℕ
 cachesKey = 99 ∷ 97 ∷ 99 ∷ 104 ∷ 101 ∷ 115 ∷ 61 ∷ []
@@ -32,12 +33,6 @@ vidKey = 32 ∷ 118 ∷ 105 ∷ 100 ∷ 61 ∷ []
 
 abbrev pub atKey : List ℕ
 atKey = 32 ∷ 97 ∷ 116 ∷ 61 ∷ []
-
-abbrev pub dataKey : List ℕ
-dataKey = 32 ∷ 100 ∷ 97 ∷ 116 ∷ 97 ∷ 61 ∷ []
-
-abbrev pub lf : List ℕ
-lf = 10 ∷ []
 
 -- `op=load`, `op=store`, `op=commit`, `op=abort`, `op=reset`, `op=evict`
 abbrev pub opText : Kind → List ℕ

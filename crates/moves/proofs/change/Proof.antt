@@ -9,9 +9,9 @@ use Rattle.rules.specs.declared.Cache.{Cache}
 use Rattle.rules.specs.declared.Machine.{Machine}
 use Rattle.rules.specs.Lists.{mapAt}
 use Rattle.rules.specs.Machine.{pos, noCache, withCaches, change}
+use Rattle.rules.proofs.Shape.{shape}
 use Rattle.moves.specs.declared.changes.Change.{Change}
 use Rattle.moves.specs.Change.{changed}
-use Rattle.moves.proofs.Shape.{shape}
 use Rattle.moves.proofs.Loops.{mapFirst, map-turn, map-done}
 use Rattle.moves.proofs.change.Statement.{statement}
 use Rattle.moves.proofs.change.Tie as tie

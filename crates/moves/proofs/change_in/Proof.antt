@@ -9,9 +9,9 @@ use Rattle.rules.specs.declared.Line.{Line}
 use Rattle.rules.specs.declared.Cache.{Cache}
 use Rattle.rules.specs.Line.{empty}
 use Rattle.rules.specs.Machine.{pos}
+use Rattle.rules.proofs.Shape.{lines-16}
 use Rattle.moves.specs.declared.changes.Change.{Change}
 use Rattle.moves.specs.Change.{changed}
-use Rattle.moves.proofs.Shape.{lines-16}
 use Rattle.moves.proofs.Loops.{mapFirst, map-turn, map-done}
 use Rattle.moves.proofs.change_in.Statement.{statement}
 use Rattle.moves.proofs.change_in.Tie as tie

@@ -10,9 +10,9 @@ use Rattle.rules.specs.declared.Found.{Found}
 use Rattle.rules.specs.declared.Found.the-variants.{Nowhere}
 use Rattle.rules.specs.Lists.{firstAt}
 use Rattle.rules.specs.Machine.{pos, noCache, inCache, find}
+use Rattle.rules.proofs.Shape.{shape}
 use Rattle.moves.specs.declared.seeks.Seek.{Seek}
 use Rattle.moves.specs.Seek.{sought}
-use Rattle.moves.proofs.Shape.{shape}
 use Rattle.moves.proofs.Loops.{Before, found-here, found-nowhere}
 use Rattle.moves.proofs.find.Statement.{statement}
 use Rattle.moves.proofs.find.Tie as tie

@@ -9,9 +9,9 @@ use borrow.Author.Needs.{needs}
 use Rattle.rules.specs.declared.Line.{Line}
 use Rattle.rules.specs.Line.{empty}
 use Rattle.rules.specs.Machine.{pos}
+use Rattle.rules.proofs.Shape.{lines-16}
 use Rattle.moves.specs.declared.seeks.Seek.{Seek}
 use Rattle.moves.specs.Seek.{sought}
-use Rattle.moves.proofs.Shape.{lines-16}
 use Rattle.moves.proofs.Loops.{Before, first-here, first-full}
 use Rattle.moves.proofs.find_in.Statement.{statement}
 use Rattle.moves.proofs.find_in.Tie as tie

@@ -10,7 +10,7 @@ use Rattle.rules.specs.declared.Line.{Line}
 use Rattle.rules.specs.Line.{empty, live}
 use Rattle.rules.specs.Lists.{firstAt}
 use Rattle.rules.specs.Machine.{freeSlot}
-use Rattle.moves.proofs.Shape.{shape, no-cache}
+use Rattle.rules.proofs.Shape.{shape, no-cache}
 use Rattle.moves.proofs.Loops.{Before, first-here, first-full}
 use Rattle.moves.proofs.free_slot.Statement.{statement}
 use Rattle.moves.proofs.free_slot.Tie as tie

@@ -4,7 +4,7 @@ use lib.ListN.{List·getD-eq-default}
 use borrow.Author.Needs.{needs}
 use Rattle.rules.specs.Line.{empty}
 use Rattle.rules.specs.Machine.{at}
-use Rattle.moves.proofs.Shape.{shape, no-cache, no-slot}
+use Rattle.rules.proofs.Shape.{shape, no-cache, no-slot}
 use Rattle.moves.proofs.line_at.Statement.{statement}
 use Rattle.moves.proofs.line_at.Tie as tie
 

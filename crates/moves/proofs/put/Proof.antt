@@ -4,7 +4,7 @@ use native.Mathlib.Omega.{arith}
 use lib.Seq.{set-out, set-getD}
 use borrow.Author.Needs.{needs}
 use Rattle.rules.specs.Machine.{noCache, put}
-use Rattle.moves.proofs.Shape.{shape, no-slot}
+use Rattle.rules.proofs.Shape.{shape, no-slot}
 use Rattle.moves.proofs.put.Statement.{statement}
 use Rattle.moves.proofs.put.Tie as tie
 

@@ -2,7 +2,8 @@
 -- Assumes nothing.
 use native.Mathlib.Omega.{arith}
 use borrow.Author.Needs.{needs}
-use Rattle.report.specs.Report.{stepKey, answerKey, dataKey, lcvidKey, lf, lineText}
+use Rattle.rules.specs.Text.{lf, dataKey}
+use Rattle.report.specs.Report.{stepKey, answerKey, lcvidKey, lineText}
 use Rattle.report.proofs.Sets.{put-then, put-wider}
 use Rattle.report.proofs.make_line.Statement.{statement}
 use Rattle.report.proofs.make_line.Tie as tie

@@ -3,7 +3,7 @@
 use native.Mathlib.Omega.{arith}
 use lib.Seq.{set-out}
 use Rattle.rules.specs.Machine.{write}
-use Rattle.moves.proofs.Shape.{shape}
+use Rattle.rules.proofs.Shape.{shape}
 use borrow.Author.Needs.{needs}
 use Rattle.settle.proofs.written_back.Statement.{statement}
 use Rattle.settle.proofs.written_back.Tie as tie

@@ -11,8 +11,8 @@ use Rattle.rules.specs.declared.Line.{Line}
 use Rattle.rules.specs.declared.Machine.{Machine}
 use Rattle.rules.specs.HouseTest.{isSound}
 use Rattle.rules.proofs.base.Bools.{right}
+use Rattle.rules.proofs.Shape.{Shape, shape}
 use Rattle.sound.specs.Numbered.{allBelow, standsNo, Gathers}
-use Rattle.sound.proofs.Shape.{Shape, shape}
 use Rattle.sound.proofs.Bridge.{numbered}
 use Rattle.sound.proofs.Chains.{all-fit}
 use Rattle.sound.proofs.is_sound.Statement.{statement}

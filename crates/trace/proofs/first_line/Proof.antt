@@ -4,7 +4,8 @@ use mathlib.Core.Path.{sym, _∙_}
 use native.Mathlib.Omega.{arith}
 use borrow.Author.Needs.{needs}
 use borrow.Author.Tests.{not-true, not-false}
-use Rattle.trace.specs.Trace.{firstOf, lf}
+use Rattle.rules.specs.Text.{lf}
+use Rattle.trace.specs.Trace.{firstOf}
 use Rattle.trace.proofs.Keys.{stands-fits}
 use Rattle.trace.proofs.first_line.Statement.{statement}
 use Rattle.trace.proofs.first_line.Tie as tie

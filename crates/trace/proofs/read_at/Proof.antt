@@ -4,7 +4,8 @@ use mathlib.Core.Path.{sym, _∙_}
 use native.Mathlib.Omega.{arith}
 use borrow.Author.Needs.{needs}
 use borrow.Author.Tests.{le-leb, lt-leb, not-true, not-false}
-use Rattle.trace.specs.Trace.{readAt, lf}
+use Rattle.rules.specs.Text.{lf}
+use Rattle.trace.specs.Trace.{readAt}
 use Rattle.trace.proofs.Keys.{stands-fits}
 use Rattle.trace.proofs.read_at.Statement.{statement}
 use Rattle.trace.proofs.read_at.Tie as tie

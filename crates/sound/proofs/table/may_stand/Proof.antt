@@ -12,7 +12,7 @@ use Rattle.rules.specs.declared.State.{State}
 use Rattle.rules.specs.declared.State.the-variants.{I, M, O, E, S, SM, SO, SE, SS}
 use Rattle.rules.specs.States.{stands}
 use Rattle.rules.proofs.base.States.{states-rule}
-use Rattle.sound.specs.Table.{numberOf}
+use Rattle.sound.specs.Table.{rowOf}
 use Rattle.sound.proofs.Agree.{agree}
 use Rattle.sound.proofs.table.may_stand.Statement.{statement}
 use Rattle.sound.proofs.table.may_stand.Tie as tie
@@ -24,16 +24,16 @@ abbrev table : List (List ℕ)
 table = each (λ s. each (λ t. cond (stands s t) 1 0))
 
 abbrev entry : State → State → Bool
-entry s t = eqb (getD (getD table (numberOf s) []) (numberOf t) 0) 1
+entry s t = eqb (getD (getD table (rowOf s) []) (rowOf t) 0) 1
 
 entry-stands : (s t : State) → entry s t ≡ stands s t
 entry-stands s t = agree (entry s t) (stands s t) (states-rule entry stands refl s t) (states-rule stands entry refl s t)
 
-number-requires : tie.Need-number-requires
-number-requires c κs = search needs
+row-of-requires : tie.Need-row-of-requires
+row-of-requires c κs = search needs
 
-number-requires-2 : tie.Need-number-requires-2
-number-requires-2 c κs = search needs
+row-of-requires-2 : tie.Need-row-of-requires-2
+row-of-requires-2 c κs = search needs
 
 mul-result : tie.Need-mul-result
 mul-result c = search needs
@@ -47,9 +47,9 @@ index-2-result c = search needs
 returns : tie.Need-returns
 returns c =
     let k = c .before in
-    rw (k .number2 .ensures .0, k .before .number .ensures .0) (entry-stands (k .before .before .args .s) (k .before .before .args .t))
+    rw (k .row-of2 .ensures .0, k .before .row-of .ensures .0) (entry-stands (k .before .before .args .s) (k .before .before .args .t))
 
 pub may-stand-spec : {M : Type 1} → statement M
 may-stand-spec =
     tie.close
-    (tie.spec number-requires number-requires-2 mul-result index-1-result index-2-result returns)
+    (tie.spec row-of-requires row-of-requires-2 mul-result index-1-result index-2-result returns)

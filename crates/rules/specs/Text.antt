@@ -1,9 +1,18 @@
--- "Numbers are decimal, no leading zero", in ASCII.
+-- What trace and report text share, in ASCII: LF, ` data=`, and decimal numbers.
 -- Assumes nothing.
 use mathlib.Core.Bool.{cond}
 use mathlib.Core.List.{List, [], _∷_, _++_}
 use Prim.Native.Nat.{ℕ, zero, suc, _+_, _/_, _%_}
 use lib.Dec.{ltb}
+
+-- LF and ` data=`
+abbrev pub lf : List ℕ
+lf = 10 ∷ []
+
+abbrev pub dataKey : List ℕ
+dataKey = 32 ∷ 100 ∷ 97 ∷ 116 ∷ 97 ∷ 61 ∷ []
+
+-- ---- "Numbers are decimal, no leading zero"
 
 -- the digit of a number below ten
 abbrev pub digitText : ℕ → ℕ
