@@ -43,12 +43,15 @@ use Rattle.rules.proofs.machines.House.{house-sound, sound-house, sound
 pub one-result : {A : Type 0} {definition r s : A} → r ≡ definition → s ≡ definition → r ≡ s
 one-result p q = p ∙ sym q
 
--- making a machine gives a sound one, refused or not
-pub make-sound : (n : ℕ) (words : List Data) → length words ≡ 64 → House (makeOf n words .machine)
+-- making a machine gives a sound one, of its sizes, refused or not
+pub make-sound : (n : ℕ) (words : List Data) → length words ≡ 64 → House (makeOf n words .machine) × Sized (makeOf n words .machine)
 unfolding makeOf
 make-sound n words all = by-test (leb 1 n && leb n 4)
-    (λ i. rw i (sound-house (fresh-sound n words (leb-true 1 n (left (leb 1 n) (leb n 4) i)) (leb-true n 4 (right (leb 1 n) (leb n 4) i)) all)))
-    (λ i. rw i (sound-house (fresh-sound 1 (replicate 64 noData) (omega arith) (omega arith) refl)))
+    (λ i. rw i (both (fresh-sound n words (leb-true 1 n (left (leb 1 n) (leb n 4) i)) (leb-true n 4 (right (leb 1 n) (leb n 4) i)) all)))
+    (λ i. rw i (both (fresh-sound 1 (replicate 64 noData) (omega arith) (omega arith) refl)))
+  where
+    both : {μ : Machine} → SoundMachine (vids μ) μ → House μ × Sized μ
+    both t = (sound-house t, sound-sized t)
 
 -- the test that code computes decides the house rules in document 01's words: refusal 2 is given exactly when a machine is not sound
 pub house : (μ : Machine) → Sized μ → Decides (isSound μ) (House μ)

@@ -1,0 +1,4 @@
+-- Laws that the proofs of the player share.
+-- Assumes nothing.
+pub mod Telling
+pub mod Turns

@@ -1,0 +1,58 @@
+-- One turn of the definition: what the lines from a place on are, by what stands there.
+-- Assumes nothing.
+use mathlib.Core.Path.{_≡_, refl, sym, _∙_}
+use mathlib.Core.List.{List, [], _∷_}
+use Prim.Native.Nat.{ℕ, zero, suc, _+_, _-_, _≤_, _<_}
+use native.Mathlib.Nat.{not-suc-le-zero}
+use native.Mathlib.Omega.{arith}
+use Rattle.rules.specs.declared.Machine.{Machine}
+use Rattle.rules.specs.declared.Op.{Op}
+use Rattle.rules.specs.declared.Reason.the-variants.{Unreadable}
+use Rattle.rules.specs.declared.Answer.the-variants.{Refused}
+use Rattle.rules.specs.declared.Answered.{Answered}
+use Rattle.rules.specs.House.{House, Sized}
+use Rattle.rules.specs.Step.{ruleOf, stepOf}
+use Rattle.rules.proofs.Theorems.{step-sound, rule-is-step}
+use Rattle.report.specs.Report.{lineText}
+use Rattle.trace.specs.declared.Read.the-variants as read
+use Rattle.trace.specs.Trace.{readAt}
+use Rattle.play.specs.Play.{stepLine, onRead, linesFrom}
+
+-- on a sound machine the rule gives the step, and a sound machine again
+pub stepped : {μ : Machine} → House μ × Sized μ → (op : Op) {r : Answered} → r ≡ ruleOf μ op → r ≡ stepOf μ op
+stepped {μ} (h, z) op e = e ∙ sym (rule-is-step μ z h op)
+
+pub stepped-sound : {μ : Machine} → House μ × Sized μ → (op : Op) {r : Answered} → r ≡ ruleOf μ op → House (r .machine) × Sized (r .machine)
+stepped-sound {μ} (h, z) op e = rw (stepped (h, z) op e) (step-sound μ z h op)
+
+module _ (s : List ℕ) (at n : ℕ) (μ : Machine) (k : ℕ) where
+  -- the lines where a step stands, by its answer
+  abbrev after : Answered → ℕ → List (List ℕ)
+  after r next = stepLine n r ∷ linesFrom (k - 1) s next (n + 1) (r .machine)
+
+  abbrev broken : List ℕ
+  broken = lineText n (Refused Unreadable) (μ .lcvid)
+
+  pub no-turn : k ≤ 0 → linesFrom k s at n μ ≡ []
+  no-turn h = go k h
+    where
+      go : (k : ℕ) → k ≤ 0 → linesFrom k s at n μ ≡ []
+      go zero h = unfold linesFrom in refl
+      go (suc k) h = absurd (not-suc-le-zero h)
+
+  module _ (h : 0 < k) where
+    turn : linesFrom k s at n μ ≡ onRead (readAt s at) (λ op next. after (stepOf μ op) next) broken
+    turn = go k h
+      where
+        go : (k : ℕ) → 0 < k → linesFrom k s at n μ ≡ onRead (readAt s at) (λ op next. stepLine n (stepOf μ op) ∷ linesFrom (k - 1) s next (n + 1) (stepOf μ op .machine)) broken
+        go zero h = absurd (not-suc-le-zero h)
+        go (suc k) h = let e : suc k - 1 ≡ k = omega arith in rw e (unfold linesFrom in refl)
+
+    pub turn-ends : readAt s at ≡ read.End → linesFrom k s at n μ ≡ []
+    turn-ends e = turn ∙ rw e
+
+    pub turn-breaks : {begins : ℕ} → readAt s at ≡ read.Unreadable begins → linesFrom k s at n μ ≡ broken ∷ []
+    turn-breaks e = turn ∙ rw e
+
+    pub turn-steps : {op : Op} {next : ℕ} → readAt s at ≡ read.Step op next → {r : Answered} → r ≡ stepOf μ op → linesFrom k s at n μ ≡ after r next
+    turn-steps e f = turn ∙ rw (e, f)

@@ -1,0 +1,3 @@
+-- A whole trace text to a whole report.
+pub mod Play
+pub mod Buffer

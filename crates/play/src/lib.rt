@@ -1,0 +1,90 @@
+// A whole trace text to a whole report, in a buffer that is lent.
+//
+// `play` is proved to write exactly the report that document 01 describes, for every text whatever its bytes; it has no `requires`, and the crate assumes nothing. The definition
+// plays the public step, which tests the house rules first; the code plays the rule without that test, since every machine that it comes to is sound.
+use report::Wrote;
+use rules::Answer;
+use rules::Machine;
+use rules::Reason;
+use trace::First;
+use trace::Read;
+ghost use mathlib.Core.Path.{_≡_};
+ghost use lib.ListN.{length};
+ghost use Rattle.rules.specs.House.{House, Sized};
+ghost use Rattle.rules.specs.declared.Answer.the-variants.{Refused};
+ghost use Rattle.report.specs.Report.{lineText};
+ghost use Rattle.play.specs.Play.{linesFrom, reportOf};
+ghost use Rattle.play.specs.Buffer.{Plays, Ends};
+
+// The place after the report, and whether it is whole: the first line that doesn't fit (13) ends it.
+pub struct Played {
+    pub end: usize,
+    pub whole: bool,
+}
+
+// The report's last line: a refusal after which nothing is played.
+fn last_line(out: &mut [u8], end: usize, n: u64, reason: Reason, lcvid: u64) -> Played
+    ensures { λ r. ⌜ Ends (lineText n (Refused reason) lcvid) end (now (out .entry)) r (now (out .exit)) ⌝ }
+{
+    let answer = Answer::Refused(reason);
+    let Wrote::Next(last) = report::write_line(out, end, n, answer, lcvid) else {
+        return Played { end, whole: false };
+    };
+    Played {
+        end: last,
+        whole: true,
+    }
+}
+
+// The steps from a place of the text on.
+fn play_steps(start: Machine, text: &[u8], from: usize, out: &mut [u8]) -> Played
+    requires { ⌜ House start × Sized start ⌝ }
+    ensures { λ r. ⌜ Plays (linesFrom (length (now (text .entry))) (now (text .entry)) from 1 start) (now (out .entry)) r (now (out .exit)) ⌝ }
+{
+    let mut machine = start;
+    let mut at = from;
+    let mut end = 0;
+    let mut n: u64 = 1;
+    let mut left = text.len();
+    while 0 < left {
+        let read = trace::read_at(text, at);
+        match read {
+            Read::Step(op, next) => {
+                let did = step::rule(machine, op);
+                let answer = did.answer;
+                let after = did.machine;
+                let Wrote::Next(last) = report::write_line(out, end, n, answer, after.lcvid) else {
+                    return Played { end, whole: false };
+                };
+                machine = after;
+                end = last;
+                at = next;
+                n += 1;
+                left -= 1;
+            }
+            Read::Unreadable(_) => return last_line(out, end, n, Reason::Unreadable, machine.lcvid),
+            Read::End => return Played { end, whole: true },
+        }
+    }
+    Played { end, whole: true }
+}
+
+// The whole report, from the start of the buffer on.
+pub fn play(text: &[u8], out: &mut [u8]) -> Played
+    ensures { λ r. ⌜ Plays (reportOf (now (text .entry))) (now (out .entry)) r (now (out .exit)) ⌝ }
+{
+    if 65536 < text.len() {
+        return last_line(out, 0, 0, Reason::Unreadable, 0);
+    }
+    let First::Caches(count, next) = trace::first_line(text) else {
+        return last_line(out, 0, 0, Reason::Unreadable, 0);
+    };
+    let zero = [0u64; 64];
+    let made = step::make(count as usize, zero);
+    let answer = made.answer;
+    if let Answer::Refused(reason) = answer {
+        return last_line(out, 0, 0, reason, 0);
+    }
+    let machine = made.machine;
+    play_steps(machine, text, next, out)
+}
