@@ -2,3 +2,4 @@
 -- Assumes nothing.
 pub mod Telling
 pub mod Turns
+pub mod ExactReport
