@@ -88,15 +88,15 @@ first-long s n next h = go next (first-line s n next h)
     go next (first {e = e} caches ended) = let b = stands-fits lf s e (omega arith) ended in omega (arith, field-long n e cachesKey s 0 caches)
 
 -- an op of at least seven bytes, four keys with at least a digit each, and LF; and the line lies within the text
+pub line-long : (s : List ℕ) (at : ℕ) (op : Op) (next : ℕ) → StepLine s at op next → (at + 34 ≤ next) × (next ≤ length s)
+line-long s at op next (line {kind = kind} {c = c} {v = v} {x = x} {d = d} {i = i} {j = j} {m = m} {l = l} {e = e} named cache vid place word ended unused) =
+    let k = kind-long s at kind i named in
+    let a = field-long c j cacheKey s i cache in
+    let b = field-long v m vidKey s j vid in
+    let f = field-long x l atKey s m place in
+    let g = field-long d e dataKey s l word in
+    let n = stands-fits lf s e (omega arith) ended in
+    omega arith
+
 pub step-long : (s : List ℕ) (at : ℕ) (op : Op) (next : ℕ) → readAt s at ≡ Step op next → (at + 34 ≤ next) × (next ≤ length s)
-step-long s at op next h = go op next (step-line s at op next h)
-  where
-    go : (op : Op) (next : ℕ) → StepLine s at op next → (at + 34 ≤ next) × (next ≤ length s)
-    go op next (line {kind = kind} {c = c} {v = v} {x = x} {d = d} {i = i} {j = j} {m = m} {l = l} {e = e} named cache vid place word ended unused) =
-        let k = kind-long s at kind i named in
-        let a = field-long c j cacheKey s i cache in
-        let b = field-long v m vidKey s j vid in
-        let f = field-long x l atKey s m place in
-        let g = field-long d e dataKey s l word in
-        let n = stands-fits lf s e (omega arith) ended in
-        omega arith
+step-long s at op next h = line-long s at op next (step-line s at op next h)

@@ -3,3 +3,6 @@ pub mod Keys
 pub mod Digits
 pub mod Line
 pub mod Lengths
+pub mod Stands
+pub mod Decimal
+pub mod ReadsBack

@@ -3,8 +3,9 @@
 use mathlib.Core.Path.{_≡_, refl, subst₂}
 use mathlib.Core.Bool.{Bool, true, false, cond}
 use mathlib.Core.List.{List}
-use Prim.Native.Nat.{ℕ, _+_}
+use Prim.Native.Nat.{ℕ, _+_, _<_}
 use native.Mathlib.Omega.{arith}
+use borrow.Author.Tests.{lt-leb}
 use lib.Dec.{leb}
 use lib.ListN.{length}
 use Rattle.rules.specs.declared.Op.{Op}
@@ -94,3 +95,7 @@ module _ (s : List ℕ) (at : ℕ) (op : Op) (next : ℕ) where
       a-test (standsAt lf s e) _ h (λ ended h.
       a-test (unusedAreZero kind c v x d) _ h (λ unused h.
       the-step _ _ h (line named cache vid place word ended unused))))))))
+
+pub line-step : (s : List ℕ) (at : ℕ) (op : Op) (next : ℕ) → at < length s → StepLine s at op next → readAt s at ≡ Step op next
+unfolding readAt
+line-step s at op next inside (line named cache vid place word ended unused) = rw (lt-leb (length s) at inside, named, cache, vid, place, word, ended, unused)
