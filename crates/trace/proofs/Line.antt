@@ -26,15 +26,19 @@ pub differ : {P : Type 0} → _≡_ {A = ℕ} 0 1 → P
 differ e = absurd (omega arith)
 
 -- a test chose the result in hand, since the other one is of a different kind
-pub chosen : {A : Type 0} (b : Bool) (r other given : A) → (other ≡ given → _≡_ {A = ℕ} 0 1) → cond b r other ≡ given → (b ≡ true) × (r ≡ given)
+chosen : {A : Type 0} (b : Bool) (r other given : A) → (other ≡ given → _≡_ {A = ℕ} 0 1) → cond b r other ≡ given → (b ≡ true) × (r ≡ given)
 chosen true r other given d e = (refl, e)
 chosen false r other given d e = differ (d e)
+
+-- a number was read, and not refused
+pub unrefused : (w q : ℕ) (b : Bool) (p : Parsed) → cond b p Bad ≡ Number w q → (b ≡ true) × (p ≡ Number w q)
+unrefused w q b p = chosen b p Bad (Number w q) (λ z. cc)
 
 -- ---- the first line
 
 -- the number of caches and the place after the line, from what was read
 pub data FirstLine (s : List ℕ) (n : ℕ) : ℕ → Type 0 where
-  first : {e : ℕ} → fieldAt cachesKey s 0 ≡ Number n e → standsAt lf s e ≡ true → FirstLine s n (e + 1)
+  first : (e : ℕ) → fieldAt cachesKey s 0 ≡ Number n e → standsAt lf s e ≡ true → FirstLine s n (e + 1)
 
 pub first-line : (s : List ℕ) (n next : ℕ) → firstOf s ≡ Caches n next → FirstLine s n next
 unfolding firstOf
@@ -46,14 +50,14 @@ first-line s n next = go (fieldAt cachesKey s 0) refl
         let r : Caches m (e + 1) ≡ Caches n next = t .1 in
         let a : m ≡ n = cc in
         let b : e + 1 ≡ next = cc in
-        rw b at (first (rw a at q) (t .0))
+        rw b at (first e (rw a at q) (t .0))
     go Bad q h = differ cc
 
 -- ---- a step's line
 
 -- the step and the place after its line, from what was read
 pub data StepLine (s : List ℕ) (at : ℕ) : Op → ℕ → Type 0 where
-  line : {kind : Kind} {c v x d i j m l e : ℕ} → kindAt s at ≡ OfKind kind i → fieldAt cacheKey s i ≡ Number c j → fieldAt vidKey s j ≡ Number v m → fieldAt atKey s m ≡ Number x l
+  line : (kind : Kind) (c v x d i j m l e : ℕ) → kindAt s at ≡ OfKind kind i → fieldAt cacheKey s i ≡ Number c j → fieldAt vidKey s j ≡ Number v m → fieldAt atKey s m ≡ Number x l
       → fieldAt dataKey s l ≡ Number d e → standsAt lf s e ≡ true → unusedAreZero kind c v x d ≡ true → StepLine s at (opOf kind c v x d) (e + 1)
 
 -- where a step came of it, something was read
@@ -75,8 +79,9 @@ module _ (s : List ℕ) (at : ℕ) (op : Op) (next : ℕ) where
   a-number Bad then h f = differ cc
 
   a-test : (b : Bool) (r : Read) → cond b r (Unreadable at) ≡ Step op next → (b ≡ true → r ≡ Step op next → Taken) → Taken
-  a-test true r h f = f refl h
-  a-test false r h f = differ cc
+  a-test b r h f =
+      let t = chosen b r (Unreadable at) (Step op next) (λ z. cc) h in
+      f (t .0) (t .1)
 
   the-step : (o : Op) (p : ℕ) → Step o p ≡ Step op next → StepLine s at o p → Taken
   the-step o p h =
@@ -94,8 +99,9 @@ module _ (s : List ℕ) (at : ℕ) (op : Op) (next : ℕ) where
       a-number (fieldAt dataKey s l) _ h (λ d e word h.
       a-test (standsAt lf s e) _ h (λ ended h.
       a-test (unusedAreZero kind c v x d) _ h (λ unused h.
-      the-step _ _ h (line named cache vid place word ended unused))))))))
+      the-step _ _ h (line kind c v x d i j m l e named cache vid place word ended unused))))))))
 
 pub line-step : (s : List ℕ) (at : ℕ) (op : Op) (next : ℕ) → at < length s → StepLine s at op next → readAt s at ≡ Step op next
 unfolding readAt
-line-step s at op next inside (line named cache vid place word ended unused) = rw (lt-leb (length s) at inside, named, cache, vid, place, word, ended, unused)
+line-step s at op next inside (line kind c v x d i j m l e named cache vid place word ended unused) =
+    rw (lt-leb (length s) at inside, named, cache, vid, place, word, ended, unused)

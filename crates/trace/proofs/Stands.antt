@@ -1,17 +1,18 @@
 -- A text that stands at a place of a longer one, and the place after it: put together, taken apart, and as a key.
 -- Assumes nothing.
-use mathlib.Core.Path.{_≡_, refl, sym, _∙_, ap}
+use mathlib.Core.Path.{_≡_, refl, sym, _∙_}
 use mathlib.Core.Bool.{true, false≢true}
 use mathlib.Core.List.{List, [], _∷_, _++_, append-assoc}
-use Prim.Native.Nat.{ℕ, _+_, _≤_, _<_}
+use Prim.Native.Nat.{ℕ, _+_}
 use native.Mathlib.Omega.{arith}
 use borrow.Author.Tests.{eqb-true, eq-eqb}
 use lib.Dec.{eqb}
-use lib.ListN.{length, drop, length-append, length-drop}
+use lib.ListN.{length, drop, length-append}
 use lib.Seq.{drop-append-seam, drop-drop}
 use Rattle.rules.proofs.base.Bools.{left, right}
 use Rattle.trace.specs.Numbers.{begins, standsAt}
 
+-- the text stands at the place, and the next place is the one after it
 pub record Stands (s : List ℕ) (at : ℕ) (text : List ℕ) (next : ℕ) : Type 0 where
   pub after : next ≡ at + length text
   pub holds : drop at s ≡ text ++ drop next s
@@ -32,14 +33,11 @@ module _ (s : List ℕ) (at : ℕ) where
       split : drop at s ≡ x ++ (y ++ drop next s)
       split = h .holds ∙ append-assoc x y (drop next s)
 
-      pub front : Stands s at x (at + length x)
-      front = stands x (y ++ drop next s) split
+      pub first-part : Stands s at x (at + length x)
+      first-part = stands x (y ++ drop next s) split
 
-      pub back : Stands s (at + length x) y next
-      back = record { after = omega (arith, h .after, length-append x y); holds = behind x (y ++ drop next s) split }
-
-  pub within : (text : List ℕ) (next : ℕ) → 0 < length text → Stands s at text next → next ≤ length s
-  within text next some h = omega (arith, h .after, length-drop at s, length-drop next s, simp length-append at (ap length (h .holds)))
+      pub second-part : Stands s (at + length x) y next
+      second-part = record { after = omega (arith, h .after, length-append x y); holds = behind x (y ++ drop next s) split }
 
 -- ---- keys
 

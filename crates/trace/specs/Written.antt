@@ -16,7 +16,7 @@ abbrev pub fieldText : List ℕ → ℕ → List ℕ
 fieldText key n = key ++ decimal n
 
 -- "one step a line, keys in this order, one space between"
-abbrev pub lineText : Kind → ℕ → ℕ → ℕ → ℕ → List ℕ
+unfoldable pub lineText : Kind → ℕ → ℕ → ℕ → ℕ → List ℕ
 lineText k c v x d = opText k ++ (fieldText cacheKey c ++ (fieldText vidKey v ++ (fieldText atKey x ++ (fieldText dataKey d ++ lf))))
 
 -- "A key that the op doesn't use must be 0", "For evict, `at` is the slot"
@@ -33,7 +33,7 @@ abbrev pub Small : ℕ → Type 0
 Small n = n < 2 ^ 64
 
 -- the step's numbers are
-unfoldable pub Fits : Op → Type 0
+abbrev pub Fits : Op → Type 0
 Fits (Load c v x) = Small c × Small v × Small x
 Fits (Store c v x d) = Small c × Small v × Small x × Small d
 Fits (Commit v) = Small v
