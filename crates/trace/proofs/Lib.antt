@@ -1,3 +1,9 @@
--- Laws of keys and of digits that the proofs of the code share.
+-- Laws of keys and of digits that the proofs of the code share; and what is read is what is written.
 pub mod Keys
 pub mod Digits
+pub mod Line
+pub mod Stands
+pub mod Decimal
+pub mod Pieces
+pub mod Lengths
+pub mod ReadsBack

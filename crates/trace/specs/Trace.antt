@@ -45,7 +45,7 @@ opText AskEvict = 111 ∷ 112 ∷ 61 ∷ 101 ∷ 118 ∷ 105 ∷ 99 ∷ 116 ∷ 
 
 -- ---- the first line
 
-abbrev firstBy : List ℕ → Parsed → First
+abbrev pub firstBy : List ℕ → Parsed → First
 firstBy s (Number n next) = cond (standsAt lf s next) (Caches n (next + 1)) Broken
 firstBy s Bad = Broken
 
@@ -55,7 +55,7 @@ firstOf s = firstBy s (fieldAt cachesKey s 0)
 -- ---- a step's line
 
 -- the kind that stands at a place, if one of the six does, and the place after it
-abbrev tryKind : List ℕ → ℕ → Kind → Named → Named
+abbrev pub tryKind : List ℕ → ℕ → Kind → Named → Named
 tryKind s at k others = cond (standsAt (opText k) s at) (OfKind k (at + length (opText k))) others
 
 unfoldable pub kindAt : List ℕ → ℕ → Named
@@ -86,11 +86,11 @@ opOf AskReset c v x d = Reset
 opOf AskEvict c v x d = Evict c x
 
 -- what follows where something was read, and else `bad`
-abbrev onKind : Named → Read → (Kind → ℕ → Read) → Read
+abbrev pub onKind : Named → Read → (Kind → ℕ → Read) → Read
 onKind (OfKind k next) bad then = then k next
 onKind Unknown bad then = bad
 
-abbrev onNumber : Parsed → Read → (ℕ → ℕ → Read) → Read
+abbrev pub onNumber : Parsed → Read → (ℕ → ℕ → Read) → Read
 onNumber (Number v next) bad then = then v next
 onNumber Bad bad then = bad
 
