@@ -1,7 +1,6 @@
 -- The definition of playing, applied to document 01's exact trace text, computes to its exact report, byte for byte.
 -- Assumes nothing.
 use mathlib.Core.Path.{refl}
-use lib.ListN.{replicate}
 use Rattle.rules.specs.Text.{lastDigits}
 use Rattle.rules.specs.Data.{read, putWord, sameData}
 use Rattle.rules.specs.Line.{dead, live, hits, isOwner, isPlain, isShare}

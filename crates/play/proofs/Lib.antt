@@ -2,4 +2,5 @@
 -- Assumes nothing.
 pub mod Telling
 pub mod Turns
+pub mod Room
 pub mod ExactReport

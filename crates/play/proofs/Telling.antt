@@ -60,7 +60,8 @@ telling-none lines before =
     let e : length before - 0 ≡ length before = omega arith in
     record { done = []; place = refl; room = omega arith; holds = refl; front = rw e; all = rw e }
 
-plays-as : {lines : List (List ℕ)} {before out after : List ℕ} {p r : Played} → Plays lines before p out → r .end ≡ p .end → r .whole ≡ p .whole → after ≡ out → Plays lines before r after
+plays-as : {lines : List (List ℕ)} {before out after : List ℕ} {p r : Played}
+    → Plays lines before p out → r .end ≡ p .end → r .whole ≡ p .whole → after ≡ out → Plays lines before r after
 plays-as h e w a = record { place = e ∙ h .place; whole = w ∙ h .whole; holds = a ∙ rw e (h .holds); within = rw (a, e) (h .within) }
 
 module _ {lines : List (List ℕ)} {before : List ℕ} {end : ℕ} {out : List ℕ} {rest : List (List ℕ)} (t : Telling lines before end out rest) where
@@ -71,7 +72,8 @@ module _ {lines : List (List ℕ)} {before : List ℕ} {end : ℕ} {out : List �
   telling-length = ap length (t .holds) ∙ (length-append (t .done) (drop end before) ∙ omega (arith, t .place, t .room, length-drop end before))
 
   -- nothing more fits or is to come: the buffer stays as it is
-  stays : (b : Bool) → joined (fitting (length before - end) rest) ≡ [] → leb (length (joined rest)) (length before - end) ≡ b → Plays lines before (record { end = end; whole = b }) out
+  stays : (b : Bool) → joined (fitting (length before - end) rest) ≡ [] → leb (length (joined rest)) (length before - end) ≡ b
+      → Plays lines before (record { end = end; whole = b }) out
   stays b none all =
       let w : joined (fitting (length before) lines) ≡ t .done = t .front ∙ rw none (append-nil (t .done)) in
       record { place = t .place ∙ ap length (sym w); whole = sym (t .all ∙ all); holds = t .holds ∙ rw w; within = omega (arith, t .room, telling-length) }
@@ -102,7 +104,8 @@ module _ {lines : List (List ℕ)} {before : List ℕ} {end : ℕ} {out : List �
           place = omega (arith, t .place, length-append (t .done) line);
           room = k;
           holds = laid-again;
-          front = t .front ∙ rw (e, le-leb (length line) (length before - end) (omega (arith, k)), r) (sym (append-assoc (t .done) line (joined (fitting (length before - (end + length line)) more))));
+          front = t .front ∙ rw (e, le-leb (length line) (length before - end) (omega (arith, k)), r)
+              (sym (append-assoc (t .done) line (joined (fitting (length before - (end + length line)) more))));
           all = t .all ∙ rw e (same-test k);
         }
       where
@@ -110,12 +113,17 @@ module _ {lines : List (List ℕ)} {before : List ℕ} {end : ℕ} {out : List �
         laid-again =
             let front : take end out ≡ t .done = ap (take end) (t .holds) ∙ take-at (t .done) (drop end before) end (sym (t .place)) in
             let back : drop end out ≡ drop end before = ap (drop end) (t .holds) ∙ drop-at (t .done) (drop end before) end (sym (t .place)) in
-            rw (front, sym (drop-drop (length line) end out), back, drop-drop (length line) end before) (sym (append-assoc (t .done) line (drop (end + length line) before)))
+            rw (front, sym (drop-drop (length line) end out), back, drop-drop (length line) end before)
+            (sym (append-assoc (t .done) line (drop (end + length line) before)))
 
-        same-test : end + length line ≤ length before → leb (length (line ++ joined more)) (length before - end) ≡ leb (length (joined more)) (length before - (end + length line))
-        same-test k = by-test (leb (length (joined more)) (length before - (end + length line)))
-            (λ i. le-leb (length (line ++ joined more)) (length before - end) (omega (arith, k, leb-true (length (joined more)) (length before - (end + length line)) i, length-append line (joined more))) ∙ sym i)
-            (λ i. lt-leb (length (line ++ joined more)) (length before - end) (omega (arith, k, leb-false (length (joined more)) (length before - (end + length line)) i, length-append line (joined more))) ∙ sym i)
+        same-test : end + length line ≤ length before
+            → leb (length (line ++ joined more)) (length before - end) ≡ leb (length (joined more)) (length before - (end + length line))
+        same-test k =
+            let both = length-append line (joined more) in
+            let left = length before - (end + length line) in
+            by-test (leb (length (joined more)) left)
+            (λ i. le-leb (length (line ++ joined more)) (length before - end) (omega (arith, k, leb-true (length (joined more)) left i, both)) ∙ sym i)
+            (λ i. lt-leb (length (line ++ joined more)) (length before - end) (omega (arith, k, leb-false (length (joined more)) left i, both)) ∙ sym i)
 
 -- ---- a turn
 

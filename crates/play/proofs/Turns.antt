@@ -1,10 +1,12 @@
--- One turn of the definition: what the lines from a place on are, by what stands there.
+-- One turn of the definition: what the lines from a place on are, by what stands there; and how many turns are enough.
 -- Assumes nothing.
-use mathlib.Core.Path.{_≡_, refl, sym, _∙_}
+use mathlib.Core.Path.{_≡_, refl, sym, _∙_, ap}
 use mathlib.Core.List.{List, [], _∷_}
 use Prim.Native.Nat.{ℕ, zero, suc, _+_, _-_, _≤_, _<_}
 use native.Mathlib.Nat.{not-suc-le-zero}
 use native.Mathlib.Omega.{arith}
+use borrow.Author.Tests.{le-leb}
+use lib.ListN.{length}
 use Rattle.rules.specs.declared.Machine.{Machine}
 use Rattle.rules.specs.declared.Op.{Op}
 use Rattle.rules.specs.declared.Reason.the-variants.{Unreadable}
@@ -14,8 +16,10 @@ use Rattle.rules.specs.House.{House, Sized}
 use Rattle.rules.specs.Step.{ruleOf, stepOf}
 use Rattle.rules.proofs.Theorems.{step-sound, rule-is-step}
 use Rattle.report.specs.Report.{lineText}
+use Rattle.trace.specs.declared.Read.{Read}
 use Rattle.trace.specs.declared.Read.the-variants as read
 use Rattle.trace.specs.Trace.{readAt}
+use Rattle.trace.proofs.Lengths.{step-long}
 use Rattle.play.specs.Play.{stepLine, onRead, linesFrom}
 
 -- on a sound machine the rule gives the step, and a sound machine again
@@ -44,7 +48,8 @@ module _ (s : List ℕ) (at n : ℕ) (μ : Machine) (k : ℕ) where
     turn : linesFrom k s at n μ ≡ onRead (readAt s at) (λ op next. after (stepOf μ op) next) broken
     turn = go k h
       where
-        go : (k : ℕ) → 0 < k → linesFrom k s at n μ ≡ onRead (readAt s at) (λ op next. stepLine n (stepOf μ op) ∷ linesFrom (k - 1) s next (n + 1) (stepOf μ op .machine)) broken
+        go : (k : ℕ) → 0 < k
+            → linesFrom k s at n μ ≡ onRead (readAt s at) (λ op next. stepLine n (stepOf μ op) ∷ linesFrom (k - 1) s next (n + 1) (stepOf μ op .machine)) broken
         go zero h = absurd (not-suc-le-zero h)
         go (suc k) h = let e : suc k - 1 ≡ k = omega arith in rw e (unfold linesFrom in refl)
 
@@ -56,3 +61,29 @@ module _ (s : List ℕ) (at n : ℕ) (μ : Machine) (k : ℕ) where
 
     pub turn-steps : {op : Op} {next : ℕ} → readAt s at ≡ read.Step op next → {r : Answered} → r ≡ stepOf μ op → linesFrom k s at n μ ≡ after r next
     turn-steps e f = turn ∙ rw (e, f)
+
+-- ---- how many turns are enough
+
+module _ (s : List ℕ) where
+  -- past the end there is no step, so no turn has a line
+  all-read : (k at n : ℕ) (μ : Machine) → length s ≤ at → linesFrom k s at n μ ≡ []
+  all-read zero at n μ h = no-turn s at n μ zero (omega arith)
+  all-read (suc k) at n μ h = turn-ends s at n μ (suc k) (omega arith) (unfold readAt in rw (le-leb (length s) at h))
+
+  enough-after : (k j at n : ℕ) (μ : Machine) → length s ≤ at + suc k
+      → ((at n : ℕ) (μ : Machine) → length s ≤ at + k → linesFrom (k + j) s at n μ ≡ linesFrom k s at n μ)
+      → (t : Read) → readAt s at ≡ t
+      → onRead t (λ op next. stepLine n (stepOf μ op) ∷ linesFrom (k + j) s next (n + 1) (stepOf μ op .machine)) (lineText n (Refused Unreadable) (μ .lcvid))
+      ≡ onRead t (λ op next. stepLine n (stepOf μ op) ∷ linesFrom k s next (n + 1) (stepOf μ op .machine)) (lineText n (Refused Unreadable) (μ .lcvid))
+  enough-after k j at n μ h rest (read.Step op next) e =
+      ap (λ (more : List (List ℕ)). stepLine n (stepOf μ op) ∷ more) (rest next (n + 1) (stepOf μ op .machine) (omega (arith, h, step-long s at op next e .0)))
+  enough-after k j at n μ h rest (read.Unreadable begins) e = refl
+  enough-after k j at n μ h rest read.End e = refl
+
+  -- as many turns as bytes are left: more change nothing
+  pub turns-enough : (k j at n : ℕ) (μ : Machine) → length s ≤ at + k → linesFrom (k + j) s at n μ ≡ linesFrom k s at n μ
+  unfolding linesFrom
+  turns-enough zero j at n μ h = all-read (zero + j) at n μ (omega (arith, h))
+  turns-enough (suc k) j at n μ h =
+      let e : suc k + j ≡ suc (k + j) = omega arith in
+      rw e (enough-after k j at n μ h (turns-enough k j) (readAt s at) refl)

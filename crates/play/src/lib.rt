@@ -8,7 +8,6 @@ use rules::Machine;
 use rules::Reason;
 use trace::First;
 use trace::Read;
-ghost use mathlib.Core.Path.{_≡_};
 ghost use lib.ListN.{length};
 ghost use Rattle.rules.specs.House.{House, Sized};
 ghost use Rattle.rules.specs.declared.Answer.the-variants.{Refused};

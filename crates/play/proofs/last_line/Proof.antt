@@ -1,39 +1,31 @@
+-- The line fits, or it doesn't and nothing is written.
+-- Assumes nothing.
 use borrow.Author.Needs.{needs}
 use mathlib.Core.Path.{sym}
 use Rattle.play.proofs.Telling.{written, not-written}
 use Rattle.play.proofs.last_line.Statement.{statement}
 use Rattle.play.proofs.last_line.Tie as tie
-use Rattle.play.proofs.last_line.Reads as reads
-use Rattle.play.proofs.last_line.Lts as lts
-use Rattle.report.proofs.write_line.Reads as write-line-reads
 
--- src/lib.rt:30:29
 write-line-requires : tie.Need-write-line-requires
 write-line-requires c κs = search needs
 
--- src/lib.rt:30:21
 enum-known-last : tie.Need-enum-known-last
 enum-known-last c = search needs
 
--- src/lib.rt:31:9
 enum-told : tie.Need-enum-told
 enum-told c = search needs
 
--- src/lib.rt:31:9
 same-length : tie.Need-same-length
 same-length c = search needs
 
--- src/lib.rt:31:9
 returns : tie.Need-returns
 returns c =
     let w = not-written (c .before .before .before .before .write-line .ensures) _ (c .enum-told .given .1) in
     record { place = rw (w .0); whole = sym (w .0); holds = rw (w .0) (w .1) }
 
--- src/lib.rt:26:1
 same-length-2 : tie.Need-same-length-2
 same-length-2 c = search needs
 
--- src/lib.rt:26:1
 returns-2 : tie.Need-returns-2
 returns-2 c =
     let w = written (c .before .before .before .before .before .write-line .ensures) _ (c .before .last .given .1) in

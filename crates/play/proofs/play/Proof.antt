@@ -1,4 +1,6 @@
-use mathlib.Core.Path.{_≡_, refl, sym, _∙_, ap}
+-- A text that is too long, a first line that is refused, or the steps.
+-- Assumes nothing.
+use mathlib.Core.Path.{_≡_, refl, sym, _∙_}
 use mathlib.Core.Logic.{inl, inr}
 use mathlib.Core.List.{List, [], _∷_}
 use Prim.Native.Nat.{ℕ, _≤_, _<_}
@@ -18,15 +20,9 @@ use Rattle.rules.proofs.Theorems.{make-sound}
 use Rattle.trace.specs.declared.First.the-variants.{Caches, Broken}
 use Rattle.trace.specs.Trace.{firstOf}
 use Rattle.play.specs.Play.{longest, linesFrom, refusedFirst, onMade, made, reportOf}
-use Rattle.play.proofs.Telling.{one-line, plays-length}
+use Rattle.play.proofs.Telling.{one-line}
 use Rattle.play.proofs.play.Statement.{statement}
 use Rattle.play.proofs.play.Tie as tie
-use Rattle.play.proofs.play.Reads as reads
-use Rattle.play.proofs.play.Lts as lts
-use Rattle.play.proofs.last_line.Reads as last-line-reads
-use Rattle.play.proofs.play_steps.Reads as play-steps-reads
-use Rattle.step.proofs.make.Reads as make-reads
-use Rattle.trace.proofs.first_line.Reads as first-line-reads
 
 -- the tag of a refusal, 4, is none of the others
 not-four : OneOf (0 ∷ 1 ∷ 2 ∷ 3 ∷ []) 4 → ⊥
@@ -58,87 +54,82 @@ module _ (s : List ℕ) where
       first-made : OneOf (0 ∷ 1 ∷ 2 ∷ 3 ∷ []) (tagOf answer.the-type (r .answer)) → reportOf s ≡ linesFrom (length s) s next 1 (r .machine)
       first-made g = first-read ∙ go (r .answer) g
         where
-          go : (a : Answer) → OneOf (0 ∷ 1 ∷ 2 ∷ 3 ∷ []) (tagOf answer.the-type a) → onMade a (linesFrom (length s) s next 1 (r .machine)) ≡ linesFrom (length s) s next 1 (r .machine)
+          steps : List (List ℕ)
+          steps = linesFrom (length s) s next 1 (r .machine)
+
+          go : (a : Answer) → OneOf (0 ∷ 1 ∷ 2 ∷ 3 ∷ []) (tagOf answer.the-type a) → onMade a steps ≡ steps
           go (Value w) g = refl
           go Done g = refl
           go Misspec g = refl
           go Overflow g = refl
           go (Refused k) g = absurd (not-four g)
 
--- src/lib.rt:77:9
 last-line-requires : tie.Need-last-line-requires
 last-line-requires c κs = search needs
 
--- src/lib.rt:77:9
 same-length : tie.Need-same-length
 same-length c = search needs
 
--- src/lib.rt:77:9
 returns : tie.Need-returns
 returns c =
     rw (too-long _ (c .before .before .before .before .if1 .taken)) (one-line (c .before .before .last-line .ensures))
 
--- src/lib.rt:79:38
 first-line-requires : tie.Need-first-line-requires
 first-line-requires c κs = search needs
 
--- src/lib.rt:79:23
 enum-known-count : tie.Need-enum-known-count
 enum-known-count c = search needs
 
--- src/lib.rt:80:26
 enum-told : tie.Need-enum-told
 enum-told c = search needs
 
--- src/lib.rt:80:9
 last-line-requires-2 : tie.Need-last-line-requires-2
 last-line-requires-2 c κs = search needs
 
--- src/lib.rt:80:9
 same-length-2 : tie.Need-same-length-2
 same-length-2 c = search needs
 
--- src/lib.rt:80:9
 returns-2 : tie.Need-returns-2
 returns-2 c =
-    rw (first-broken _ (c .before .before .before .before .before .before .before .if1 .left) (sym (c .before .before .before .before .before .before .first-line .ensures) ∙ c .before .before .before .before .enum-told .given .1)) (one-line (c .before .before .last-line2 .ensures))
+    let f = c .before .before .before .before in
+    let l = f .before .before in
+    rw (first-broken _ (l .before .if1 .left) (sym (l .first-line .ensures) ∙ f .enum-told .given .1)) (one-line (c .before .before .last-line2 .ensures))
 
--- src/lib.rt:83:9
 make-requires : tie.Need-make-requires
 make-requires c κs = search needs
 
--- src/lib.rt:85:28
 enum-known-answer : tie.Need-enum-known-answer
 enum-known-answer c = search needs
 
--- src/lib.rt:86:9
 last-line-requires-3 : tie.Need-last-line-requires-3
 last-line-requires-3 c κs = search needs
 
--- src/lib.rt:86:9
 same-length-3 : tie.Need-same-length-3
 same-length-3 c = search needs
 
--- src/lib.rt:86:9
 returns-3 : tie.Need-returns-3
 returns-3 c =
-    rw (first-refused _ (c .before .before .before .before .before .before .before .before .before .before .before .before .if1 .left) _ _ (sym (c .before .before .before .before .before .before .before .before .before .before .before .first-line .ensures) ∙ c .before .before .before .before .before .before .before .before .before .count .given .1) _ (c .before .before .before .before .before .before .before .make .ensures) _ (c .before .before .before .before .before .answer .given .1))
+    let a = c .before .before .before .before .before in
+    let d = a .before .before in
+    let f = d .before .before in
+    let l = f .before .before in
+    rw (first-refused _ (l .before .if1 .left) _ _ (sym (l .first-line .ensures) ∙ f .count .given .1) _ (d .make .ensures) _ (a .answer .given .1))
     (one-line (c .before .before .last-line3 .ensures))
 
--- src/lib.rt:89:5
 play-steps-requires : tie.Need-play-steps-requires
 play-steps-requires c κs =
     rw (c .before .before .before .make .ensures) (make-sound _ (replicate 64 0) (length-replicate {A = ℕ} 64 0))
 
--- src/lib.rt:73:1
 same-length-4 : tie.Need-same-length-4
 same-length-4 c = search needs
 
--- src/lib.rt:73:1
 returns-4 : tie.Need-returns-4
 returns-4 c =
-    rw (first-made _ (c .before .before .before .before .before .before .before .before .before .before .before .if1 .left) _ _ (sym (c .before .before .before .before .before .before .before .before .before .before .first-line .ensures) ∙ c .before .before .before .before .before .before .before .before .count .given .1) _ (c .before .before .before .before .before .before .make .ensures) (c .before .before .before .before .before .match2 .keys2))
-    (c .before .before .play-steps .ensures)
+    let a = c .before .before .before .before .before in
+    let d = a .before in
+    let f = d .before .before in
+    let l = f .before .before in
+    rw (first-made _ (l .before .if1 .left) _ _ (sym (l .first-line .ensures) ∙ f .count .given .1) _ (d .make .ensures) (a .match2 .keys2)) (c .before .before .play-steps .ensures)
 
 pub play-spec : {M : Type 1} → statement M
 play-spec =
