@@ -1,0 +1,16 @@
+//! Ladomysh, second program: the machine, the traces and the report of
+//! document 01, written from its words alone so that another program of the
+//! same document can be compared with it.
+
+pub mod batch;
+pub mod check;
+pub mod contents;
+pub mod machine;
+pub mod player;
+pub mod report;
+pub mod step;
+pub mod trace;
+
+pub use check::check;
+pub use machine::Machine;
+pub use player::{play, play_showing_machine};
