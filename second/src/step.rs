@@ -14,6 +14,22 @@ pub enum Step {
     Evict { cache: u64, slot: u64 },
 }
 
+impl Step {
+    /// Its line in a trace: "A key that the op doesn't use must be 0", "For
+    /// evict, `at` is the slot."
+    pub fn line(self) -> String {
+        let (op, cache, vid, at, data) = match self {
+            Step::Load { cache, vid, at } => ("load", cache, vid, at, 0),
+            Step::Store { cache, vid, at, data } => ("store", cache, vid, at, data),
+            Step::Commit { vid } => ("commit", 0, vid, 0, 0),
+            Step::Abort => ("abort", 0, 0, 0, 0),
+            Step::Reset => ("reset", 0, 0, 0, 0),
+            Step::Evict { cache, slot } => ("evict", cache, 0, slot, 0),
+        };
+        format!("op={op} cache={cache} vid={vid} at={at} data={data}\n")
+    }
+}
+
 /// "Answers: value (a load), done (any other step), or instead misspec,
 /// overflow, refused-N."
 #[derive(Clone, Copy, Debug, PartialEq, Eq)]

@@ -1,7 +1,6 @@
 //! Traces drawn without a look at any machine.
 
 use super::steer::word;
-use super::trace::line;
 use crate::random::Random;
 use second::step::Step;
 
@@ -23,7 +22,7 @@ pub fn trace(random: &mut Random, steps: u64) -> Vec<u8> {
     let mut text = format!("caches={}\n", ranges.caches);
     let mut committed = 0;
     for _ in 0..steps {
-        text.push_str(&line(step(random, &ranges, &mut committed)));
+        text.push_str(&step(random, &ranges, &mut committed).line());
     }
     text.into_bytes()
 }

@@ -20,7 +20,7 @@ impl Trace {
     }
 
     pub fn add(&mut self, step: Step) {
-        self.text.push_str(&line(step));
+        self.text.push_str(&step.line());
         self.machine.step(step);
     }
 
@@ -35,18 +35,6 @@ impl Trace {
     pub fn into_text(self) -> Vec<u8> {
         self.text.into_bytes()
     }
-}
-
-pub fn line(step: Step) -> String {
-    let (op, cache, vid, at, data) = match step {
-        Step::Load { cache, vid, at } => ("load", cache, vid, at, 0),
-        Step::Store { cache, vid, at, data } => ("store", cache, vid, at, data),
-        Step::Commit { vid } => ("commit", 0, vid, 0, 0),
-        Step::Abort => ("abort", 0, 0, 0, 0),
-        Step::Reset => ("reset", 0, 0, 0, 0),
-        Step::Evict { cache, slot } => ("evict", cache, 0, slot, 0),
-    };
-    format!("op={op} cache={cache} vid={vid} at={at} data={data}\n")
 }
 
 /// A trace as the comparison plays it. A few begin with a refused first line

@@ -20,7 +20,7 @@ use Rattle.trace.specs.declared.Kind.the-variants.{AskLoad, AskStore, As
 use Rattle.trace.specs.declared.Named.the-variants.{OfKind}
 use Rattle.trace.specs.Numbers.{numberAt, fieldAt}
 use Rattle.trace.specs.Trace.{cacheKey, vidKey, atKey, opText, kindAt, unusedAreZero, opOf, readAt}
-use Rattle.trace.specs.Written.{fieldText, lineText, stepText, Small, Fits, startsDigit}
+use Rattle.trace.specs.Written.{fieldText, writtenLine, stepText, Small, Fits, startsDigit}
 use Rattle.trace.proofs.Stands.{Stands, stands, joined, first-part, second-part, key-holds, key-found}
 use Rattle.trace.proofs.Line.{StepLine, line, step-line, line-step}
 use Rattle.trace.proofs.Pieces.{op-back, op-only, field-back, field-only}
@@ -49,9 +49,9 @@ module _ (s : List ℕ) where
       f q (field-back s at key n q small (first-part s at (fieldText key n) more next h) (rw (behind .holds) e)) behind
 
   -- the four numbers, and unused keys 0
-  line-back : (k : Kind) (at c v x d next : ℕ) → Small c → Small v → Small x → Small d → unusedAreZero k c v x d ≡ true → Stands s at (lineText k c v x d) next
+  line-back : (k : Kind) (at c v x d next : ℕ) → Small c → Small v → Small x → Small d → unusedAreZero k c v x d ≡ true → Stands s at (writtenLine k c v x d) next
       → StepLine s at (opOf k c v x d) next
-  unfolding lineText
+  unfolding writtenLine
   line-back k at c v x d next c-small v-small x-small d-small unused h =
       op-then k _ at next h (λ i named h.
       field-then cacheKey _ i c next c-small refl h (λ j cache h.
@@ -91,7 +91,7 @@ step-back op fits front rest =
 zero-and : (n : ℕ) (b : Bool) → (eqb n 0 && b) ≡ true → (n ≡ 0) × (b ≡ true)
 zero-and n b e = (eqb-true n 0 (left (eqb n 0) b e), right (eqb n 0) b e)
 
-all-zero : (k : Kind) (c v x d : ℕ) → (eqb c 0 && (eqb v 0 && (eqb x 0 && eqb d 0))) ≡ true → lineText k c v x d ≡ lineText k 0 0 0 0
+all-zero : (k : Kind) (c v x d : ℕ) → (eqb c 0 && (eqb v 0 && (eqb x 0 && eqb d 0))) ≡ true → writtenLine k c v x d ≡ writtenLine k 0 0 0 0
 all-zero k c v x d u =
     let p = zero-and c (eqb v 0 && (eqb x 0 && eqb d 0)) u in
     let q = zero-and v (eqb x 0 && eqb d 0) (p .1) in
@@ -100,7 +100,7 @@ all-zero k c v x d u =
 
 module _ (c v x d : ℕ) where
   -- unused keys are 0, so the line is the one that is written
-  as-written : (k : Kind) → unusedAreZero k c v x d ≡ true → lineText k c v x d ≡ stepText (opOf k c v x d)
+  as-written : (k : Kind) → unusedAreZero k c v x d ≡ true → writtenLine k c v x d ≡ stepText (opOf k c v x d)
   unfolding stepText
   as-written AskLoad u = rw (eqb-true d 0 u)
   as-written AskStore u = refl
@@ -128,7 +128,7 @@ record Written (s : List ℕ) (at : ℕ) (op : Op) (next : ℕ) : Type 0 where
   fits : Fits op
 
 line-written : (s : List ℕ) (at : ℕ) (op : Op) (next : ℕ) → StepLine s at op next → Written s at op next
-unfolding lineText
+unfolding writtenLine
 line-written s at op next (line kind c v x d i j m l e named cache vid place word ended unused) =
     let t-cache = field-only s i cacheKey c j cache in
     let t-vid = field-only s j vidKey v m vid in

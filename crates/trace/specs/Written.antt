@@ -16,17 +16,17 @@ abbrev pub fieldText : List ℕ → ℕ → List ℕ
 fieldText key n = key ++ decimal n
 
 -- "one step a line, keys in this order, one space between"
-unfoldable pub lineText : Kind → ℕ → ℕ → ℕ → ℕ → List ℕ
-lineText k c v x d = opText k ++ (fieldText cacheKey c ++ (fieldText vidKey v ++ (fieldText atKey x ++ (fieldText dataKey d ++ lf))))
+unfoldable pub writtenLine : Kind → ℕ → ℕ → ℕ → ℕ → List ℕ
+writtenLine k c v x d = opText k ++ (fieldText cacheKey c ++ (fieldText vidKey v ++ (fieldText atKey x ++ (fieldText dataKey d ++ lf))))
 
 -- "A key that the op doesn't use must be 0", "For evict, `at` is the slot"
 unfoldable pub stepText : Op → List ℕ
-stepText (Load c v x) = lineText AskLoad c v x 0
-stepText (Store c v x d) = lineText AskStore c v x d
-stepText (Commit v) = lineText AskCommit 0 v 0 0
-stepText Abort = lineText AskAbort 0 0 0 0
-stepText Reset = lineText AskReset 0 0 0 0
-stepText (Evict c t) = lineText AskEvict c 0 t 0
+stepText (Load c v x) = writtenLine AskLoad c v x 0
+stepText (Store c v x d) = writtenLine AskStore c v x d
+stepText (Commit v) = writtenLine AskCommit 0 v 0 0
+stepText Abort = writtenLine AskAbort 0 0 0 0
+stepText Reset = writtenLine AskReset 0 0 0 0
+stepText (Evict c t) = writtenLine AskEvict c 0 t 0
 
 -- a number "at most 18446744073709551615"
 abbrev pub Small : ℕ → Type 0

@@ -65,7 +65,7 @@ pub fn trace(random: &mut Random, steps: usize) -> String {
     while taken < steps {
         for step in next_steps(random, &bent, machine.contents()) {
             machine.step(step);
-            text.push_str(&line(step));
+            text.push_str(&step.line());
             taken += 1;
         }
     }
@@ -136,16 +136,4 @@ fn mistake(random: &mut Random, bent: &Bent, lcvid: u64) -> Step {
         7 => Step::Evict { cache: large, slot: large },
         _ => Step::Evict { cache: 0, slot: random.below(16) },
     }
-}
-
-fn line(step: Step) -> String {
-    let (op, cache, vid, at, data) = match step {
-        Step::Load { cache, vid, at } => ("load", cache, vid, at, 0),
-        Step::Store { cache, vid, at, data } => ("store", cache, vid, at, data),
-        Step::Commit { vid } => ("commit", 0, vid, 0, 0),
-        Step::Abort => ("abort", 0, 0, 0, 0),
-        Step::Reset => ("reset", 0, 0, 0, 0),
-        Step::Evict { cache, slot } => ("evict", cache, 0, slot, 0),
-    };
-    format!("op={op} cache={cache} vid={vid} at={at} data={data}\n")
 }
