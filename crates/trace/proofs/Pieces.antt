@@ -17,7 +17,7 @@ use Rattle.trace.specs.Numbers.{begins, standsAt, fieldAt}
 use Rattle.trace.specs.Trace.{opText, tryKind, kindAt}
 use Rattle.trace.specs.Written.{fieldText, Small, startsDigit}
 use Rattle.trace.proofs.Line.{differ, unrefused}
-use Rattle.trace.proofs.Stands.{Stands, joined, first-part, second-part, key-holds, key-found}
+use Rattle.trace.proofs.Stands.{Stands, stands-both, first-part, second-part, key-holds, key-found}
 use Rattle.trace.proofs.Decimal.{some-digit, number-written, number-only}
 
 module _ (s : List ℕ) (at : ℕ) where
@@ -59,7 +59,7 @@ module _ (s : List ℕ) (at : ℕ) where
     field-only e =
         let c = unrefused n next (standsAt key s at) _ e in
         let r = number-only n next s (at + length key) (c .1) in
-        (joined s at key (decimal n) next (key-holds key s at (c .0)) (r .0), r .1)
+        (stands-both s at key (decimal n) next (key-holds key s at (c .0)) (r .0), r .1)
 
     pub field-long : fieldAt key s at ≡ Number n next → at + length key + 1 ≤ next
     field-long e = omega (arith, field-only e .0 .after, length-append key (decimal n), some-digit n)

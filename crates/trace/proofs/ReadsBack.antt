@@ -21,7 +21,7 @@ use Rattle.trace.specs.declared.Named.the-variants.{OfKind}
 use Rattle.trace.specs.Numbers.{numberAt, fieldAt}
 use Rattle.trace.specs.Trace.{cacheKey, vidKey, atKey, opText, kindAt, unusedAreZero, opOf, readAt}
 use Rattle.trace.specs.Written.{fieldText, writtenLine, stepText, Small, Fits, startsDigit}
-use Rattle.trace.proofs.Stands.{Stands, stands, joined, first-part, second-part, key-holds, key-found}
+use Rattle.trace.proofs.Stands.{Stands, stands, stands-both, first-part, second-part, key-holds, key-found}
 use Rattle.trace.proofs.Line.{StepLine, line, step-line, line-step}
 use Rattle.trace.proofs.Pieces.{op-back, op-only, field-back, field-only}
 use Rattle.trace.proofs.Lengths.{line-long}
@@ -137,11 +137,11 @@ line-written s at op next (line kind c v x d i j m l e named cache vid place wor
     record {
       text =
           rw (← as-written c v x d kind unused)
-          (joined s at (opText kind) _ next (op-only s at kind i named)
-          (joined s i (fieldText cacheKey c) _ next (t-cache .0)
-          (joined s j (fieldText vidKey v) _ next (t-vid .0)
-          (joined s m (fieldText atKey x) _ next (t-at .0)
-          (joined s l (fieldText dataKey d) lf next (t-data .0) (key-holds lf s e ended))))));
+          (stands-both s at (opText kind) _ next (op-only s at kind i named)
+          (stands-both s i (fieldText cacheKey c) _ next (t-cache .0)
+          (stands-both s j (fieldText vidKey v) _ next (t-vid .0)
+          (stands-both s m (fieldText atKey x) _ next (t-at .0)
+          (stands-both s l (fieldText dataKey d) lf next (t-data .0) (key-holds lf s e ended))))));
       fits = all-fit c v x d kind (t-cache .1) (t-vid .1) (t-at .1) (t-data .1);
     }
 

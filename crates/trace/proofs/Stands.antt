@@ -26,8 +26,8 @@ module _ (s : List ℕ) (at : ℕ) where
   stands text rest h = record { after = refl; holds = rw (behind text rest h) h }
 
   module _ (x y : List ℕ) (next : ℕ) where
-    pub joined : {mid : ℕ} → Stands s at x mid → Stands s mid y next → Stands s at (x ++ y) next
-    joined {mid} f g = record { after = omega (arith, f .after, g .after, length-append x y); holds = f .holds ∙ rw (g .holds) (sym (append-assoc x y (drop next s))) }
+    pub stands-both : {mid : ℕ} → Stands s at x mid → Stands s mid y next → Stands s at (x ++ y) next
+    stands-both {mid} f g = record { after = omega (arith, f .after, g .after, length-append x y); holds = f .holds ∙ rw (g .holds) (sym (append-assoc x y (drop next s))) }
 
     module _ (h : Stands s at (x ++ y) next) where
       split : drop at s ≡ x ++ (y ++ drop next s)

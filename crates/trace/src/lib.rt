@@ -1,11 +1,16 @@
 // Trace text: the first line, and the step that stands at a place.
 //
-// The two public functions are proved to give what their definitions say of every text, whatever its bytes; they have no `requires`, and the crate assumes nothing.
+// Each public function is proved to give what its definition says of every text, whatever its bytes; none has a `requires`, and the crate assumes nothing.
+// `reader` keeps a text and a place in it together. The borrow checker covers no function over such a struct, so those of `reader`, and `read_at`, which reads
+// through them, are proved by hand, each by a walk of its code. They leave the work to `step_at`, which takes a plain slice and a place and is covered, as all others are.
 mod numbers;
+pub mod reader;
 
 use numbers::Parsed;
 use numbers::field_at;
 use numbers::stands_at;
+use reader::next;
+use reader::open;
 use rules::Op;
 ghost use mathlib.Core.Path.{_≡_};
 ghost use Rattle.trace.specs.Trace.{firstOf, kindAt, unusedAreZero, opOf, readAt};
@@ -117,8 +122,8 @@ fn op_of(kind: Kind, cache: u64, vid: u64, at: u64, data: u64) -> Op
     }
 }
 
-// The step that stands at a place.
-pub fn read_at(s: &[u8], at: usize) -> Read
+// The work: the step that stands at a place of a slice.
+fn step_at(s: &[u8], at: usize) -> Read
     ensures { λ r. ⌜ r ≡ readAt (now (s .entry)) at ⌝ }
 {
     if s.len() <= at {
@@ -146,4 +151,11 @@ pub fn read_at(s: &[u8], at: usize) -> Read
         return Read::Unreadable(at);
     }
     Read::Step(op_of(kind, cache, vid, x, data), e + 1)
+}
+
+// The step that stands at a place, read through a reader. A caller, whose slice is a plain one, needs no walk.
+pub fn read_at(s: &[u8], at: usize) -> Read
+    ensures { λ r. ⌜ r ≡ readAt (now (s .entry)) at ⌝ }
+{
+    next(open(s, at))
 }
