@@ -1,4 +1,4 @@
-# Sourced by the scripts of this folder: where the kit is, and how a program is built and run with the kit's C library. It moves to the top of the repository.
+# Sourced by the scripts of this folder and by examples/check: where the kit is, and how a program is built and run with the kit's C library. It moves to the top of the repository.
 cd "$(dirname "$(readlink -f "${BASH_SOURCE[0]}")")/.."
 command -v rt >/dev/null || { echo "bench: the Rattle kit is not there: no 'rt' on the PATH" >&2; exit 2; }
 kit=$(dirname "$(dirname "$(readlink -f "$(command -v rt)")")")/on/$(uname -m)

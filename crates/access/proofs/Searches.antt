@@ -1,82 +1,61 @@
--- What a store comes to by what the search for the owner told it, with a VID and plain.
+-- What a store's search for the owner comes to: too late is misspeculation, and else the owner is the one that was found.
 -- Assumes nothing.
-use mathlib.Core.Path.{_≡_, refl}
-use mathlib.Core.Bool.{Bool, true, false, cond, _&&_}
+use mathlib.Core.Path.{_≡_, refl, sym, ap, _∙_}
+use mathlib.Core.Bool.{Bool, true, false, cond}
 use Prim.Native.Nat.{ℕ, zero, suc}
 use native.Mathlib.Omega.{arith}
 use lib.Dec.{eqb}
-use borrow.Author.Tests.{ne-eqb}
+use borrow.Author.Tests.{eqb-true, not-false}
+use Rattle.rules.specs.declared.Line.{Line}
 use Rattle.rules.specs.declared.Machine.{Machine}
 use Rattle.rules.specs.declared.Pos.{Pos}
 use Rattle.rules.specs.declared.Found.{Found}
 use Rattle.rules.specs.declared.Found.the-variants.{At, Nowhere}
-use Rattle.rules.specs.declared.Answer.the-variants.{Done, Misspec}
-use Rattle.rules.specs.declared.Answered.{Answered}
+use Rattle.rules.specs.declared.Answer.the-variants.{Misspec}
 use Rattle.rules.specs.Data.{Data}
-use Rattle.rules.specs.States.{isSM}
-use Rattle.rules.specs.Line.{empty, isOwner}
-use Rattle.rules.specs.Machine.{at, put, find, gives, place}
+use Rattle.rules.specs.Machine.{at, find, gives}
 use Rattle.rules.specs.Abort.{abortOf}
-use Rattle.rules.specs.Store.{misspeculates, version, closed, bared, storeOver, storeSplit, storeOwned, storeBy, storeM, storePlainBy, storeOf}
+use Rattle.rules.specs.Store.{misspeculates, storeOwned, storeBy, storePlainBy, storeOf}
 use Rattle.rules.specs.Step.{hasVid, actsWith}
+use Rattle.access.specs.declared.look.Held.{Held}
+use Rattle.access.specs.declared.look.Held.the-variants.{Here, Nothing}
 use Rattle.access.specs.declared.stores.Search.{Search}
 use Rattle.access.specs.declared.stores.Search.the-variants.{Clear, Late}
-use Rattle.access.specs.Stores.{searchedAt, searched}
+use Rattle.access.specs.Look.{owning, heldAt}
+use Rattle.access.specs.Search.{searched, OnTime, ActsAs}
 
--- what the search finds
-abbrev owner : Machine → ℕ → ℕ → Found
-owner μ a x = find (λ p l. isOwner x a l) μ
+-- a plain access acts with LCVID
+pub plain-acts : (lc v : ℕ) → hasVid v ≡ false → actsWith lc v ≡ lc
+plain-acts lc zero e = refl
+plain-acts lc (suc v) e = let z = eqb-true (suc v) 0 (not-false (eqb (suc v) 0) e) in absurd (omega (arith, z))
 
--- the store after the search
-abbrev pub after : Machine → Bool → ℕ → ℕ → ℕ → Data → Search → Answered
-after μ vid c a x d (Clear f) = cond vid (storeBy μ c a x d f) (storeM μ c x d)
-after μ vid c a x d Late = gives Misspec (abortOf μ)
+-- ---- the store goes on
 
-module _ (μ : Machine) (c x : ℕ) (d : Data) where
-  with-vid-here : (a : ℕ) (o : Pos) (b : Bool) → misspeculates a (at μ o) ≡ b → storeOwned μ c a x d o ≡ after μ true c a x d (cond b Late (Clear (At o)))
+abbrev from : Search → Held
+from (Clear h) = h
+from Late = Nothing
+
+cleared-line : (a : ℕ) (o : Pos) (l : Line) (b : Bool) → misspeculates a l ≡ b → {h : Held} → searched a (Here o l) ≡ Clear h → (Here o l ≡ h) × OnTime a h
+cleared-line a o l true m e = let z : _≡_ {A = Search} Late (Clear _) = rw m at e in let y : _≡_ {A = ℕ} 0 1 = cc in absurd (omega arith)
+cleared-line a o l false m e = let z : Here o l ≡ _ = ap from (rw m at e) in (z, rw (← z) m)
+
+pub cleared : (a : ℕ) (g : Held) {h : Held} → searched a g ≡ Clear h → (g ≡ h) × OnTime a h
+cleared a (Here o l) e = cleared-line a o l (misspeculates a l) refl e
+cleared a Nothing e = let z : Nothing ≡ _ = ap from e in (z, rw (← z) tt)
+
+-- ---- the store comes too late
+
+late-line : (a : ℕ) (o : Pos) (l : Line) (b : Bool) → misspeculates a l ≡ b → searched a (Here o l) ≡ Late → misspeculates a l ≡ true
+late-line a o l true m e = m
+late-line a o l false m e = let z : _≡_ {A = Search} (Clear (Here o l)) Late = rw m at e in let y : _≡_ {A = ℕ} 0 1 = cc in absurd (omega arith)
+
+module _ (μ : Machine) (c a x : ℕ) (d : Data) where
+  late-found : (vid : Bool) (f : Found) → ActsAs μ vid a → searched a (heldAt μ f) ≡ Late → cond vid (storeBy μ c a x d f) (storePlainBy μ c x d f) ≡ gives Misspec (abortOf μ)
   unfolding storeOwned
-  with-vid-here a o true e = rw e
-  with-vid-here a o false e = refl
+  late-found true (At o) p e = rw (late-line a o (at μ o) (misspeculates a (at μ o)) refl e)
+  late-found false (At o) p e = rw (ap (λ n. misspeculates n (at μ o)) (sym (p refl)) ∙ late-line a o (at μ o) (misspeculates a (at μ o)) refl e)
+  late-found vid Nowhere p e = let y : _≡_ {A = ℕ} 0 1 = cc in absurd (omega arith)
 
-  with-vid : (a : ℕ) (f : Found) → storeBy μ c a x d f ≡ after μ true c a x d (searchedAt μ a f)
-  with-vid a (At o) = with-vid-here a o _ refl
-  with-vid a Nowhere = refl
-
-  plain-here : (a : ℕ) (o : Pos) (b : Bool) → cond b (gives Misspec (abortOf μ)) (storeM μ c x d) ≡ after μ false c a x d (cond b Late (Clear (At o)))
-  plain-here a o true = refl
-  plain-here a o false = refl
-
-  plain : (f : Found) → storePlainBy μ c x d f ≡ after μ false c (μ .lcvid) x d (searchedAt μ (μ .lcvid) f)
-  plain (At o) = plain-here (μ .lcvid) o (misspeculates (μ .lcvid) (at μ o))
-  plain Nowhere = refl
-
-  pub by-search : (v : ℕ) → storeOf μ (hasVid v) c (actsWith (μ .lcvid) v) x d ≡ after μ (hasVid v) c (actsWith (μ .lcvid) v) x d (searched μ (actsWith (μ .lcvid) v) x)
-  unfolding storeOf searched
-  by-search zero = plain (owner μ (μ .lcvid) x)
-  by-search (suc v) = rw (ne-eqb (suc v) 0 (λ e. omega arith)) (with-vid (suc v) (owner μ (suc v) x))
-
--- where the search found an owner and the store goes on, it does not misspeculate
-module _ (μ : Machine) (a : ℕ) where
-  clear-here : (p o : Pos) (b : Bool) → misspeculates a (at μ p) ≡ b → cond b Late (Clear (At p)) ≡ Clear (At o) → misspeculates a (at μ o) ≡ false
-  clear-here p o true h e = cc
-  clear-here p o false h e = cc
-
-  clear-at : (f : Found) (o : Pos) → searchedAt μ a f ≡ Clear (At o) → misspeculates a (at μ o) ≡ false
-  clear-at (At p) o e = clear-here p o (misspeculates a (at μ p)) refl e
-  clear-at Nowhere o e = cc
-
-  pub clear : (x : ℕ) (o : Pos) → searched μ a x ≡ Clear (At o) → misspeculates a (at μ o) ≡ false
-  unfolding searched
-  clear x o e = clear-at (owner μ a x) o e
-
-module _ (μ : Machine) (c a x : ℕ) (d : Data) (o : Pos) where
-  over-or-split : (b : Bool) → cond b (storeOver μ c a x d o) (storeSplit μ c a x d o) ≡ place μ Done c (version x a d) (put o (cond b empty (closed a (at μ o))) (bared μ x o))
-  unfolding storeOver storeSplit
-  over-or-split true = refl
-  over-or-split false = refl
-
-  -- both stores from an owner are one: they differ in what is left in its slot
-  pub from-owner : misspeculates a (at μ o) ≡ false
-      → storeOwned μ c a x d o ≡ place μ Done c (version x a d) (put o (cond (isSM (at μ o .state) && eqb a (at μ o .m)) empty (closed a (at μ o))) (bared μ x o))
-  unfolding storeOwned
-  from-owner e = rw e (over-or-split (isSM (at μ o .state) && eqb a (at μ o .m)))
+  pub late : (vid : Bool) {h : Held} → h ≡ heldAt μ (find (owning x a) μ) → ActsAs μ vid a → searched a h ≡ Late → storeOf μ vid c a x d ≡ gives Misspec (abortOf μ)
+  unfolding storeOf
+  late vid g p e = late-found vid (find (owning x a) μ) p (rw g at e)

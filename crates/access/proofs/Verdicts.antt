@@ -1,4 +1,4 @@
--- What a verdict says: `checked` gives the refusal, or the rest; and where it passes, the number of the access and its address are below 64.
+-- What a verdict says: `checked` gives the refusal, or the rest; and where it passes, the number of the access, its address and its VID are below 64.
 -- Assumes nothing.
 use mathlib.Core.Path.{_≡_, refl, sym, _∙_}
 use mathlib.Core.Bool.{Bool, true, false, cond}
@@ -38,6 +38,7 @@ passed-one false r v e = (refl, e)
 pub record Passed (lc v at : ℕ) : Type 0 where
   pub number : actsWith lc v < 64
   pub address : at < 64
+  pub vid : v < 64
 
 below : (lc v : ℕ) → lc < 64 → v < 64 → actsWith lc v < 64
 below lc zero p q = p
@@ -50,4 +51,4 @@ passed count lc c v at j p =
     let cache = passed-one (leb count c) _ _ (sound .1) in
     let address = passed-one (ltb 63 at) _ _ (cache .1) in
     let vid = passed-one (leb 64 v) _ _ (address .1) in
-    record { number = below lc v (leb-false 64 lc (sound .0)) (leb-false 64 v (vid .0)); address = omega (arith, ltb-false 63 at (address .0)) }
+    record { number = below lc v (leb-false 64 lc (sound .0)) (leb-false 64 v (vid .0)); address = omega (arith, ltb-false 63 at (address .0)); vid = leb-false 64 v (vid .0) }

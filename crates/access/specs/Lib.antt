@@ -1,2 +1,5 @@
+-- What a load or store is refused for before its rule is tried, what it sees of the machine, and what a plan of it comes to.
 pub mod Checks
-pub mod Stores
+pub mod Look
+pub mod Plan
+pub mod Search

@@ -10,7 +10,7 @@ pub enum Verdict {
     Refuse(Reason),
 }
 
-pub fn judge(count: usize, lcvid: u64, cache: usize, vid: u64, at: u64) -> Verdict
+pub fn judge(count: usize, lcvid: u16, cache: usize, vid: u64, at: u64) -> Verdict
     ensures { λ r. ⌜ r ≡ judged count lcvid cache vid at ⌝ }
 {
     if 64 <= lcvid {
@@ -25,7 +25,8 @@ pub fn judge(count: usize, lcvid: u64, cache: usize, vid: u64, at: u64) -> Verdi
     if 64 <= vid {
         return Verdict::Refuse(Reason::VidTooLarge);
     }
-    let past = !(vid == 0) & (vid <= lcvid);
+    let v = vid as u16;
+    let past = !(v == 0) & (v <= lcvid);
     if past {
         return Verdict::Refuse(Reason::VidPast);
     }
@@ -33,7 +34,7 @@ pub fn judge(count: usize, lcvid: u64, cache: usize, vid: u64, at: u64) -> Verdi
 }
 
 // A plain access acts with LCVID, another with its VID.
-pub fn acts_with(lcvid: u64, vid: u64) -> u64
+pub fn acts_with(lcvid: u16, vid: u16) -> u16
     ensures { λ r. ⌜ r ≡ actsWith lcvid vid ⌝ }
 {
     if vid == 0 {

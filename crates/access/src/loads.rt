@@ -1,117 +1,109 @@
-// The load, with a VID or plain: the owner's word where speculative lines of the address live, and else the two cases without one.
-use crate::checks::Verdict;
-use crate::checks::acts_with;
-use crate::checks::judge;
-use crate::words::plain_word;
+// The plan of a load, with a VID or plain: the owner's word where speculative lines of the address live, and else the two cases without one.
+use crate::look::Held;
+use crate::look::Seen;
+use crate::plans::Places;
+use crate::plans::Plan;
+use crate::plans::word_of;
 use lines::is_top;
 use moves::Change;
-use moves::Seek;
-use moves::change;
-use moves::find;
-use moves::line_at;
-use moves::place;
-use moves::put;
 use rules::Answer;
-use rules::Answered;
-use rules::Found;
 use rules::Line;
-use rules::Machine;
 use rules::Pos;
 use rules::State;
 ghost use mathlib.Core.Path.{_≡_};
-ghost use mathlib.Core.Bool.{cond, _&&_};
+ghost use mathlib.Core.Bool.{cond};
 ghost use Prim.Native.Nat.{_<_, max};
-ghost use lib.Dec.{eqb};
-ghost use Rattle.rules.specs.declared.Op.the-variants.{Load};
+ghost use Rattle.rules.specs.declared.Answer.the-variants.{Value};
 ghost use Rattle.rules.specs.declared.State.the-variants.{SM, SE};
-ghost use Rattle.rules.specs.Line.{isPlain};
-ghost use Rattle.rules.specs.Machine.{at, find, isFound};
-ghost use Rattle.rules.specs.Load.{loadOf, loadOwned, afterRead, readBy, loadNew, loadPlain, loadCached};
-ghost use Rattle.rules.specs.Step.{ruleOf};
+ghost use Rattle.rules.specs.Line.{line};
+ghost use Rattle.rules.specs.Machine.{at, find, memoryAt};
+ghost use Rattle.rules.specs.Load.{isOwnShare, isDirty, readBy, plainData, loadOf, loadOwned, loadNew, loadPlain};
+ghost use Rattle.access.specs.Look.{ownPlain, anyPlain};
+ghost use Rattle.access.specs.declared.look.Held.the-variants.{Here, Nothing};
+ghost use Rattle.access.specs.declared.plans.Places.the-variants.{One};
+ghost use Rattle.access.specs.Plan.{answering, Sees, Holds, Carries, AnyCarries};
 
-// A load of the address `at` by a cache, plain where `vid` is 0.
-pub fn load(machine: Machine, cache: usize, vid: u64, at: u64) -> Answered
-    ensures { λ r. ⌜ r ≡ ruleOf machine (Load cache vid at) ⌝ }
-{
-    let verdict = judge(machine.count, machine.lcvid, cache, vid, at);
-    if let Verdict::Refuse(reason) = verdict {
-        return Answered {
-            answer: Answer::Refused(reason),
-            machine,
-        };
-    }
-    let a = acts_with(machine.lcvid, vid);
-    load_with(machine, !(vid == 0), cache, a, at)
-}
-
-// The load with number `a` of the address `x`; `vid` says that it is not plain.
+// The load with number `a` of the address `x`, of which `seen` tells; `vid` says that it is not plain.
 // Where a sound machine has no owner for `a`, no speculative line of the address lives.
-fn load_with(machine: Machine, vid: bool, cache: usize, a: u64, x: u64) -> Answered
-    requires { ⌜ (a < 64) × (x < 64) ⌝ }
-    ensures { λ r. ⌜ r ≡ loadOf machine vid cache a x 0 ⌝ }
+pub fn load_plan(seen: Seen, memory: u64, vid: bool, cache: usize, a: u16, x: u16) -> Plan
+    requires { ⌜ a < 64 ⌝ }
+    ensures { λ r. ⌜ Carries (Sees seen memory cache a x) (λ μ. loadOf μ vid cache a x 0) cache r ⌝ }
 {
-    let owner = find(machine, Seek::Owner { x, a });
-    let Found::At(o) = owner else {
+    let owner = seen.owner;
+    let Held::Here(o, l) = owner else {
+        let plain = seen.plain;
         if vid {
-            return load_first(machine, cache, a, x);
+            let first = word_of(plain, memory);
+            return load_first(seen.dirty, first, a, x);
         }
-        return load_plain(machine, cache, x);
+        let own = seen.own;
+        return load_plain(own, plain, memory, x);
     };
-    load_owned(machine, vid, cache, a, x, o)
+    let share = seen.share;
+    load_owned(share, vid, cache, a, x, o, l)
 }
 
-// ---- speculative lines live, and the owner stands at `o`
+// A plan that changes nothing.
+fn only(word: u64) -> Plan
+    ensures { λ r. ⌜ r ≡ answering (Value word) ⌝ }
+{
+    Plan {
+        answer: Answer::Value(word),
+        put: Held::Nothing,
+        change: Change::Stay,
+        places: Places::None,
+    }
+}
+
+// ---- speculative lines live, and the owner `l` stands at `o`
 
 // The asker holds the owner, or an S-S that hits, or places one: S-S (m, a + 1) with the owner's word.
-fn load_owned(machine: Machine, vid: bool, cache: usize, a: u64, x: u64, o: Pos) -> Answered
+fn load_owned(share: Held, vid: bool, cache: usize, a: u16, x: u16, o: Pos, l: Line) -> Plan
     requires { ⌜ a < 64 ⌝ }
-    ensures { λ r. ⌜ r ≡ loadOwned machine vid cache a x 0 o ⌝ }
+    ensures { λ r. ⌜ Carries (λ μ. Holds μ (isOwnShare cache x a) share × (l ≡ at μ o)) (λ μ. loadOwned μ vid cache a x 0 o) cache r ⌝ }
 {
-    let line = line_at(machine, o.cache, o.slot);
-    let value = Answer::Value(line.word);
+    let answer = Answer::Value(l.word);
+    let put = after_read(vid, a, o, l);
     if o.cache == cache {
-        let after = after_read(machine, vid, a, o, line);
-        return Answered {
-            answer: value,
-            machine: after,
+        return Plan {
+            answer,
+            put,
+            change: Change::Stay,
+            places: Places::None,
         };
     }
-    let own = find(machine, Seek::OwnShare { cache, x, a });
-    let Found::At(q) = own else {
-        let read = after_read(machine, vid, a, o, line);
-        let m = line.m;
-        let after = change(read, Change::DropStale { cache, x, m });
+    let Held::Here(_, k) = share else {
+        let m = l.m;
         let h = a + 1;
-        let share = Line {
+        let new = Line {
             state: State::SS,
             address: x,
             m,
             h,
-            word: line.word,
+            word: l.word,
         };
-        return place(machine, value, cache, share, after);
+        return Plan {
+            answer,
+            put,
+            change: Change::DropStale { cache, x, m },
+            places: Places::One(new),
+        };
     };
-    let share = line_at(machine, q.cache, q.slot);
-    Answered {
-        answer: Answer::Value(share.word),
-        machine,
-    }
+    only(k.word)
 }
 
-// The machine after the owner, whose line is `line`, was read. A plain load leaves it as it is.
-fn after_read(machine: Machine, vid: bool, a: u64, o: Pos, line: Line) -> Machine
-    requires { ⌜ line ≡ at machine o ⌝ }
-    ensures { λ r. ⌜ r ≡ afterRead machine vid a o ⌝ }
+// What is put in the slot of the owner `l` that was read: a plain load leaves it as it is.
+fn after_read(vid: bool, a: u16, o: Pos, l: Line) -> Held
+    ensures { λ r. ⌜ r ≡ cond vid (Here o (readBy a l)) Nothing ⌝ }
 {
     if !vid {
-        return machine;
+        return Held::Nothing;
     }
-    let read = read_by(a, line);
-    put(machine, o.cache, o.slot, read)
+    Held::Here(o, read_by(a, l))
 }
 
 // An owner in S-M or S-E takes the larger of h and a as its h.
-fn read_by(a: u64, l: Line) -> Line
+fn read_by(a: u16, l: Line) -> Line
     ensures { λ r. ⌜ r ≡ readBy a l ⌝ }
 {
     let state = l.state;
@@ -128,7 +120,7 @@ fn read_by(a: u64, l: Line) -> Line
     }
 }
 
-fn larger(h: u64, a: u64) -> u64
+fn larger(h: u16, a: u16) -> u16
     ensures { λ r. ⌜ r ≡ max h a ⌝ }
 {
     if h <= a { a } else { h }
@@ -137,78 +129,62 @@ fn larger(h: u64, a: u64) -> u64
 // ---- no speculative line lives, and the load has a VID
 
 // All lines of the address drop, and the asker places S-M (0, a) if one was M or O, else S-E (0, a).
-fn load_first(machine: Machine, cache: usize, a: u64, x: u64) -> Answered
-    requires { ⌜ x < 64 ⌝ }
-    ensures { λ r. ⌜ r ≡ loadNew machine cache a x 0 ⌝ }
+fn load_first(dirty: bool, word: u64, a: u16, x: u16) -> Plan
+    ensures { λ r. ⌜ AnyCarries (λ c μ. (dirty ≡ isDirty μ x) × (word ≡ plainData μ x)) (λ c μ. loadNew μ c a x 0) r ⌝ }
 {
-    let word = plain_word(machine, x);
-    let dirty = find(machine, Seek::Dirty { x });
     let state = first_state(dirty);
-    let line = Line {
+    let new = Line {
         state,
         address: x,
         m: 0,
         h: a,
         word,
     };
-    let after = change(machine, Change::DropOf { x });
-    place(machine, Answer::Value(word), cache, line, after)
+    Plan {
+        answer: Answer::Value(word),
+        put: Held::Nothing,
+        change: Change::DropOf { x },
+        places: Places::One(new),
+    }
 }
 
-// `dirty` is the M or O that was found.
-fn first_state(dirty: Found) -> State
-    ensures { λ r. ⌜ r ≡ cond (isFound dirty) SM SE ⌝ }
+fn first_state(dirty: bool) -> State
+    ensures { λ r. ⌜ r ≡ cond dirty SM SE ⌝ }
 {
-    match dirty {
-        Found::At(_) => State::SM,
-        Found::Nowhere => State::SE,
-    }
+    if dirty { State::SM } else { State::SE }
 }
 
 // ---- no speculative line lives, and the load is plain
 
 // A plain line of the asker gives the value, and nothing changes.
-fn load_plain(machine: Machine, cache: usize, x: u64) -> Answered
-    requires { ⌜ x < 64 ⌝ }
-    ensures { λ r. ⌜ r ≡ loadPlain machine cache x 0 (find (λ p l. eqb (p .cache) cache && isPlain x l) machine) ⌝ }
+// Cached elsewhere: M becomes O, E becomes S, and the asker places S. Else it places E from memory.
+fn load_plain(own: Held, plain: Held, memory: u64, x: u16) -> Plan
+    ensures { λ r. ⌜ AnyCarries (λ c μ. Holds μ (ownPlain c x) own × (Holds μ (anyPlain x) plain × (memory ≡ memoryAt μ x))) (λ c μ. loadPlain μ c x 0 (find (ownPlain c x) μ)) r ⌝ }
 {
-    let own = find(machine, Seek::OwnPlain { cache, x });
-    let Found::At(q) = own else {
-        return load_cached(machine, cache, x);
+    let Held::Here(_, k) = own else {
+        let Held::Here(_, l) = plain else {
+            return place_plain(State::E, x, memory, Change::Stay);
+        };
+        return place_plain(State::S, x, l.word, Change::Demote { x });
     };
-    let line = line_at(machine, q.cache, q.slot);
-    Answered {
-        answer: Answer::Value(line.word),
-        machine,
-    }
+    only(k.word)
 }
 
-// Cached elsewhere: M becomes O, E becomes S, and the asker places S. Else it places E from memory.
-fn load_cached(machine: Machine, cache: usize, x: u64) -> Answered
-    requires { ⌜ x < 64 ⌝ }
-    ensures { λ r. ⌜ r ≡ loadCached machine cache x 0 (find (λ p l. isPlain x l) machine) ⌝ }
+// The plan that places a plain line with the value, after a change.
+fn place_plain(state: State, x: u16, word: u64, change: Change) -> Plan
+    ensures { λ r. ⌜ r ≡ record { answer = Value word; put = Nothing; change = change; places = One (line state x 0 0 word) } ⌝ }
 {
-    let plain = find(machine, Seek::Plain { x });
-    let Found::At(q) = plain else {
-        let i = x as usize;
-        let word = machine.memory[i];
-        let line = Line {
-            state: State::E,
-            address: x,
-            m: 0,
-            h: 0,
-            word,
-        };
-        return place(machine, Answer::Value(word), cache, line, machine);
-    };
-    let held = line_at(machine, q.cache, q.slot);
-    let line = Line {
-        state: State::S,
+    let new = Line {
+        state,
         address: x,
         m: 0,
         h: 0,
-        word: held.word,
+        word,
     };
-    let after = change(machine, Change::Demote { x });
-    place(machine, Answer::Value(held.word), cache, line, after)
+    Plan {
+        answer: Answer::Value(word),
+        put: Held::Nothing,
+        change,
+        places: Places::One(new),
+    }
 }

@@ -58,9 +58,9 @@ pub fn put(
     cache: usize,
     slot: usize,
     state: State,
-    address: u64,
-    m: u64,
-    h: u64,
+    address: u16,
+    m: u16,
+    h: u16,
     word: u64,
 ) -> Machine {
     let line = Line {
@@ -74,7 +74,7 @@ pub fn put(
 }
 
 // The count, LCVID, and the word of one address in memory.
-pub fn set(machine: Machine, count: usize, lcvid: u64, address: usize, word: u64) -> Machine {
+pub fn set(machine: Machine, count: usize, lcvid: u16, address: usize, word: u64) -> Machine {
     let mut next = machine;
     next.count = count;
     next.lcvid = lcvid;
@@ -85,7 +85,7 @@ pub fn set(machine: Machine, count: usize, lcvid: u64, address: usize, word: u64
 }
 
 // The cache with an E line of address n in each slot n below `slots`.
-pub fn fill(machine: Machine, cache: usize, slots: u64) -> Machine {
+pub fn fill(machine: Machine, cache: usize, slots: u16) -> Machine {
     let mut next = machine;
     for n in 0..16 {
         if n < slots {
@@ -134,7 +134,7 @@ fn shown(answered: Answered) -> Machine {
     io::write_all(1, b" data=");
     io::print_decimal(1, data);
     io::write_all(1, b" lcvid=");
-    io::print_decimal(1, machine.lcvid);
+    io::print_decimal(1, machine.lcvid as u64);
     io::write_all(1, b"\n");
     machine
 }

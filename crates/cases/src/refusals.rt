@@ -85,7 +85,7 @@ pub fn refusal_2() {
     m = abort(m);
     m = reset(m);
     m = evict(m, 9, 99);
-    m = set(m, 0, 18446744073709551615, 0, 0);
+    m = set(m, 0, 65535, 0, 0);
     m = abort(m);
     m = set(m, 18446744073709551615, 0, 0, 0);
     m = abort(m);

@@ -1,11 +1,11 @@
-// Tests of states and lines: the classes that document 01 speaks of, dead, live, hits and owner.
+// An empty line, and tests of states and lines: the classes that document 01 speaks of, dead, live, and what a line hits.
 //
 // Every function here is proved to give what its definition in `rules` says, has no `requires`, and the crate assumes nothing.
 use rules::Line;
 use rules::State;
 ghost use mathlib.Core.Path.{_≡_};
 ghost use Rattle.rules.specs.States.{isI, isSM, isSO, isSS, plain, spec, ranged, top, owns, dirty};
-ghost use Rattle.rules.specs.Line.{dead, live, hits, isOwner, isPlain, isShare};
+ghost use Rattle.rules.specs.Line.{empty, dead, live, hits, isShare};
 
 // An empty slot.
 pub fn is_i(s: State) -> bool
@@ -177,8 +177,21 @@ pub fn is_dirty(s: State) -> bool
     }
 }
 
+// An empty slot: I, and zero in all other fields.
+pub fn empty_line() -> Line
+    ensures { λ r. ⌜ r ≡ empty ⌝ }
+{
+    Line {
+        state: State::I,
+        address: 0,
+        m: 0,
+        h: 0,
+        word: 0,
+    }
+}
+
 // Dead: an S-O or S-S line with h up to LCVID.
-pub fn is_dead(lcvid: u64, l: Line) -> bool
+pub fn is_dead(lcvid: u16, l: Line) -> bool
     ensures { λ r. ⌜ r ≡ dead lcvid l ⌝ }
 {
     let s = l.state;
@@ -187,7 +200,7 @@ pub fn is_dead(lcvid: u64, l: Line) -> bool
 }
 
 // Live: every other line that isn't I.
-pub fn is_live(lcvid: u64, l: Line) -> bool
+pub fn is_live(lcvid: u16, l: Line) -> bool
     ensures { λ r. ⌜ r ≡ live lcvid l ⌝ }
 {
     let s = l.state;
@@ -197,7 +210,7 @@ pub fn is_live(lcvid: u64, l: Line) -> bool
 }
 
 // S-M and S-E hit if a is at least m; S-O and S-S if a is also below h.
-pub fn hits(a: u64, l: Line) -> bool
+pub fn hits(a: u16, l: Line) -> bool
     ensures { λ r. ⌜ r ≡ hits a l ⌝ }
 {
     let s = l.state;
@@ -206,27 +219,8 @@ pub fn hits(a: u64, l: Line) -> bool
     (l.m <= a) & (top | (ranged & (a < l.h)))
 }
 
-// The owner for a at address x.
-pub fn is_owner(x: u64, a: u64, l: Line) -> bool
-    ensures { λ r. ⌜ r ≡ isOwner x a l ⌝ }
-{
-    let s = l.state;
-    let owns = can_own(s);
-    let hit = hits(a, l);
-    owns & ((l.address == x) & hit)
-}
-
-// A plain line of address x.
-pub fn is_plain_of(x: u64, l: Line) -> bool
-    ensures { λ r. ⌜ r ≡ isPlain x l ⌝ }
-{
-    let s = l.state;
-    let plain = is_plain(s);
-    plain & (l.address == x)
-}
-
 // An S-S line of address x with that m.
-pub fn is_share(x: u64, m: u64, l: Line) -> bool
+pub fn is_share(x: u16, m: u16, l: Line) -> bool
     ensures { λ r. ⌜ r ≡ isShare x m l ⌝ }
 {
     let s = l.state;

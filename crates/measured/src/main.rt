@@ -5,13 +5,14 @@
 // Standard output has a report line whose data depends on all that was done: the loaded values, each xored in, or 1 where every check said that the machine is sound.
 use report::Wrote;
 use rules::Answer;
+use rules::Answered;
 use rules::Machine;
 use rules::Op;
 use trace::First;
 use trace::Read;
 
 // The rule: the steps are read once, and then played from a fresh machine `times` times over. The loaded values, each xored in.
-fn rules_alone(fresh: Machine, text: &[u8], from: usize, times: u8) -> u64 {
+fn rules_alone(fresh: Answered, text: &[u8], from: usize, times: u8) -> u64 {
     let mut ops = [Op::Abort; 2048];
     let mut at = from;
     let mut count: usize = 0;
@@ -30,14 +31,13 @@ fn rules_alone(fresh: Machine, text: &[u8], from: usize, times: u8) -> u64 {
     }
     let mut sum: u64 = 0;
     for _ in 0..times {
-        let mut machine = fresh;
+        let mut did = fresh;
         for n in 0..count {
-            let did = step::rule(machine, ops[n]);
+            did = step::rule(did.machine, ops[n]);
             let answer = did.answer;
             if let Answer::Value(word) = answer {
                 sum = sum ^ word;
             }
-            machine = did.machine;
         }
     }
     sum
@@ -91,10 +91,10 @@ fn measure(letter: u8, times: u8, text: &[u8]) {
         return;
     };
     let made = step::make(caches as usize, [0u64; 64]);
-    let fresh = made.machine;
     if letter == b'r' {
-        print(rules_alone(fresh, text, from, times));
+        print(rules_alone(made, text, from, times));
     } else {
+        let fresh = made.machine;
         print(checks_alone(after_all(fresh, text, from), times));
     }
 }

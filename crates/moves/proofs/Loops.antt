@@ -1,13 +1,14 @@
 -- Loops over a list from its front: one that stops at the first hit finds what the search finds, and one that changes each element in its place ends
 -- with the list changed at every place.
 -- Assumes nothing.
-use mathlib.Core.Path.{_≡_, refl, ap}
+use mathlib.Core.Path.{_≡_, refl, sym, _∙_, ap}
 use mathlib.Core.Bool.{Bool, true, false}
 use mathlib.Core.List.{List, [], _∷_}
 use Prim.Native.Nat.{ℕ, zero, suc, _<_, _≤_, _+_, zero-le, suc-le-suc}
 use native.Mathlib.Nat.{le-of-suc-le-suc, not-suc-le-zero}
 use native.Mathlib.Numerals.{add-one}
 use lib.ListN.{length, getD, set}
+use lib.Seq.{set-getD}
 use Rattle.rules.specs.declared.Pos.{Pos}
 use Rattle.rules.specs.declared.Found.{Found}
 use Rattle.rules.specs.declared.Found.the-variants.{At, Nowhere}
@@ -67,6 +68,10 @@ module _ {A : Type 0} where
   -- a turn of the loop
   pub map-turn : (k : ℕ → A → A) (l : List A) (d : A) (i : ℕ) {ys : List A} {y : A} → i < length l → ys ≡ mapFirst k i l → y ≡ k i (getD ys i d) → set ys i y ≡ mapFirst k (i + 1) l
   map-turn k l d i h e f = rw (f, e, add-one i) (one-more k l d i h)
+
+  -- a turn that leaves the element as it is, where the change would too
+  pub map-stays : (k : ℕ → A → A) (l : List A) (d : A) (i : ℕ) {ys : List A} → i < length l → ys ≡ mapFirst k i l → k i (getD ys i d) ≡ getD ys i d → ys ≡ mapFirst k (i + 1) l
+  map-stays k l d i {ys} h e f = sym (set-getD ys i d) ∙ map-turn k l d i h e (sym f)
 
   -- its end
   pub map-done : (k : ℕ → A → A) (l : List A) (i : ℕ) → length l ≤ i → mapFirst k i l ≡ mapAt k l

@@ -1,4 +1,3 @@
--- What a search looks for and what a change does, as definitions over the rules.
+-- What a change of all lines does, as a definition over the rules.
 -- Assumes nothing.
-pub mod Seek
 pub mod Change

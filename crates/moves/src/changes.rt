@@ -1,5 +1,6 @@
 // What a change of all lines does, and what becomes of one line.
 use lines::can_own;
+use lines::empty_line;
 use lines::hits;
 use lines::is_ranged;
 use lines::is_share;
@@ -14,35 +15,24 @@ ghost use Rattle.rules.specs.Line.{empty};
 ghost use Rattle.rules.specs.Load.{demote, demoteLine};
 ghost use Rattle.rules.specs.Abort.{settle, settled, abortLine};
 ghost use Rattle.rules.specs.Reset.{resetLine};
-ghost use Rattle.moves.specs.Change.{changed};
+ghost use Rattle.moves.specs.Change.{changed, reached, isStay};
 
 // `x` is an address, `m` a modified VID; `cache` is the asking one.
 pub enum Change {
     // All lines of the address drop.
-    DropOf { x: u64 },
+    DropOf { x: u16 },
     // The S-S lines with that m drop.
-    DropShares { x: u64, m: u64 },
+    DropShares { x: u16, m: u16 },
     // The asker's own S-S lines with that m drop.
-    DropStale { cache: usize, x: u64, m: u64 },
+    DropStale { cache: usize, x: u16, m: u16 },
     // M becomes O, E becomes S.
-    Demote { x: u64 },
+    Demote { x: u16 },
     // Abort, where `lcvid` is the last committed VID.
-    Abort { lcvid: u64 },
+    Abort { lcvid: u16 },
     // Reset, but for LCVID.
     Reset,
-}
-
-// An empty slot: I, and zero in all other fields.
-pub fn empty_line() -> Line
-    ensures { λ r. ⌜ r ≡ empty ⌝ }
-{
-    Line {
-        state: State::I,
-        address: 0,
-        m: 0,
-        h: 0,
-        word: 0,
-    }
+    // Every line stays.
+    Stay,
 }
 
 // An empty slot where the line drops, else the line.
@@ -70,7 +60,7 @@ fn demoted_state(s: State) -> State
 }
 
 // A line of address x with its state demoted; another line stays.
-fn demote_line(x: u64, l: Line) -> Line
+fn demote_line(x: u16, l: Line) -> Line
     ensures { λ r. ⌜ r ≡ demoteLine x l ⌝ }
 {
     if l.address == x {
@@ -121,7 +111,7 @@ fn settle_line(l: Line) -> Line
 }
 
 // S-S lines drop; other speculative lines that LCVID hits settle, the rest drop; plain lines stay.
-fn abort_line(lcvid: u64, l: Line) -> Line
+fn abort_line(lcvid: u16, l: Line) -> Line
     ensures { λ r. ⌜ r ≡ abortLine lcvid l ⌝ }
 {
     let s = l.state;
@@ -150,6 +140,36 @@ fn reset_line(l: Line) -> Line
     l
 }
 
+// Does every line stay?
+pub fn stays(ch: Change) -> bool
+    ensures { λ r. ⌜ r ≡ isStay ch ⌝ }
+{
+    match ch {
+        Change::DropOf { x } => false,
+        Change::DropShares { x, m } => false,
+        Change::DropStale { cache, x, m } => false,
+        Change::Demote { x } => false,
+        Change::Abort { lcvid } => false,
+        Change::Reset => false,
+        Change::Stay => true,
+    }
+}
+
+// Can the change reach the line? One that it can't stays as it is.
+pub fn reaches(ch: Change, l: Line) -> bool
+    ensures { λ r. ⌜ r ≡ reached ch l ⌝ }
+{
+    match ch {
+        Change::DropOf { x } => l.address == x,
+        Change::DropShares { x, m } => l.address == x,
+        Change::DropStale { cache, x, m } => l.address == x,
+        Change::Demote { x } => l.address == x,
+        Change::Abort { lcvid } => true,
+        Change::Reset => true,
+        Change::Stay => false,
+    }
+}
+
 // What becomes of the line `l`, which stands at `p`.
 pub fn changed_line(ch: Change, p: Pos, l: Line) -> Line
     ensures { λ r. ⌜ r ≡ changed ch p l ⌝ }
@@ -164,5 +184,6 @@ pub fn changed_line(ch: Change, p: Pos, l: Line) -> Line
         Change::Demote { x } => demote_line(x, l),
         Change::Abort { lcvid } => abort_line(lcvid, l),
         Change::Reset => reset_line(l),
+        Change::Stay => l,
     }
 }

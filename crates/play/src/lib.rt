@@ -4,10 +4,11 @@
 // plays the public step, which tests the house rules first; the code plays the rule without that test, since every machine that it comes to is sound.
 use report::Wrote;
 use rules::Answer;
-use rules::Machine;
+use rules::Answered;
 use rules::Reason;
 use trace::First;
 use trace::Read;
+ghost use mathlib.Core.Path.{_≡_};
 ghost use lib.ListN.{length};
 ghost use Rattle.rules.specs.House.{House, Sized};
 ghost use Rattle.rules.specs.declared.Answer.the-variants.{Refused};
@@ -16,17 +17,25 @@ ghost use Rattle.play.specs.Play.{linesFrom, reportOf};
 ghost use Rattle.play.specs.Buffer.{Plays, Ends};
 
 // The place after the report, and whether it is whole: the first line that doesn't fit (13) ends it.
+#[repr(C)]
 pub struct Played {
     pub end: usize,
     pub whole: bool,
 }
 
+// The report takes numbers of 64 bits.
+fn wide(x: u16) -> u64
+    ensures { λ r. ⌜ r ≡ x ⌝ }
+{
+    x as u64
+}
+
 // The report's last line: a refusal after which nothing is played.
-fn last_line(out: &mut [u8], end: usize, n: u64, reason: Reason, lcvid: u64) -> Played
+fn last_line(out: &mut [u8], end: usize, n: u64, reason: Reason, lcvid: u16) -> Played
     ensures { λ r. ⌜ Ends (lineText n (Refused reason) lcvid) end (now (out .entry)) r (now (out .exit)) ⌝ }
 {
     let answer = Answer::Refused(reason);
-    let Wrote::Next(last) = report::write_line(out, end, n, answer, lcvid) else {
+    let Wrote::Next(last) = report::write_line(out, end, n, answer, wide(lcvid)) else {
         return Played { end, whole: false };
     };
     Played {
@@ -35,12 +44,12 @@ fn last_line(out: &mut [u8], end: usize, n: u64, reason: Reason, lcvid: u64) -> 
     }
 }
 
-// The steps from a place of the text on.
-fn play_steps(start: Machine, text: &[u8], from: usize, out: &mut [u8]) -> Played
-    requires { ⌜ House start × Sized start ⌝ }
-    ensures { λ r. ⌜ Plays (linesFrom (length (now (text .entry))) (now (text .entry)) from 1 start) (now (out .entry)) r (now (out .exit)) ⌝ }
+// The steps from a place of the text on. The machine stays beside its last answer: taken out at each step, it would be copied once more.
+fn play_steps(start: Answered, text: &[u8], from: usize, out: &mut [u8]) -> Played
+    requires { ⌜ House (start .machine) × Sized (start .machine) ⌝ }
+    ensures { λ r. ⌜ Plays (linesFrom (length (now (text .entry))) (now (text .entry)) from 1 (start .machine)) (now (out .entry)) r (now (out .exit)) ⌝ }
 {
-    let mut machine = start;
+    let mut did = start;
     let mut at = from;
     let mut end = 0;
     let mut n: u64 = 1;
@@ -49,19 +58,21 @@ fn play_steps(start: Machine, text: &[u8], from: usize, out: &mut [u8]) -> Playe
         let read = trace::read_at(text, at);
         match read {
             Read::Step(op, next) => {
-                let did = step::rule(machine, op);
+                did = step::rule(did.machine, op);
                 let answer = did.answer;
-                let after = did.machine;
-                let Wrote::Next(last) = report::write_line(out, end, n, answer, after.lcvid) else {
+                let lcvid = wide(did.machine.lcvid);
+                let Wrote::Next(last) = report::write_line(out, end, n, answer, lcvid) else {
                     return Played { end, whole: false };
                 };
-                machine = after;
                 end = last;
                 at = next;
                 n += 1;
                 left -= 1;
             }
-            Read::Unreadable(_) => return last_line(out, end, n, Reason::Unreadable, machine.lcvid),
+            Read::Unreadable(_) => {
+                let lcvid = did.machine.lcvid;
+                return last_line(out, end, n, Reason::Unreadable, lcvid);
+            }
             Read::End => return Played { end, whole: true },
         }
     }
@@ -84,6 +95,5 @@ pub fn play(text: &[u8], out: &mut [u8]) -> Played
     if let Answer::Refused(reason) = answer {
         return last_line(out, 0, 0, reason, 0);
     }
-    let machine = made.machine;
-    play_steps(machine, text, next, out)
+    play_steps(made, text, next, out)
 }

@@ -88,8 +88,11 @@ abbrev pub gives : Answer → Machine → Answered
 gives r μ = record { answer = r; machine = μ }
 
 -- "the lowest free slot of the asking cache; free means empty, dead, or dropped by this very step. Dropping comes before placing."
+abbrev pub freeIn : ℕ → Cache → Room
+freeIn lc k = firstAt (λ s l. not (live lc l)) (k .lines)
+
 unfoldable pub freeSlot : Machine → ℕ → Room
-freeSlot μ c = firstAt (λ s l. not (live (μ .lcvid) l)) (getD (μ .caches) c noCache .lines)
+freeSlot μ c = freeIn (μ .lcvid) (getD (μ .caches) c noCache)
 
 -- "The asker places": in δ, which is μ after the drops; where no slot is free, refusal 11, and μ comes back unchanged
 abbrev pub placedIn : Machine → Answer → ℕ → Line → Machine → Room → Answered

@@ -21,9 +21,9 @@ pub enum State {
 // One slot: a state, an address, a modified VID m, a high VID h and a word.
 pub struct Line {
     pub state: State,
-    pub address: u64,
-    pub m: u64,
-    pub h: u64,
+    pub address: u16,
+    pub m: u16,
+    pub h: u16,
     pub word: u64,
 }
 
@@ -35,7 +35,7 @@ pub struct Cache {
 pub struct Machine {
     pub caches: [Cache; 4],
     pub count: usize,
-    pub lcvid: u64,
+    pub lcvid: u16,
     pub memory: [u64; 64],
 }
 

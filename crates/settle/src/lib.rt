@@ -3,10 +3,8 @@
 // Every function here is proved. The four public ones have no `requires`, and give what the step without the test of the house rules gives, on every machine.
 // The crate assumes nothing.
 use moves::Change;
-use moves::Seek;
 use rules::Answer;
 use rules::Answered;
-use rules::Found;
 use rules::Line;
 use rules::Machine;
 use rules::Reason;
@@ -19,7 +17,7 @@ ghost use Rattle.rules.specs.declared.Answer.the-variants.{Done, Refused};
 ghost use Rattle.rules.specs.Line.{empty};
 ghost use Rattle.rules.specs.Machine.{pos, at, put, write, gives};
 ghost use Rattle.rules.specs.Abort.{abortOf};
-ghost use Rattle.rules.specs.Reset.{resetOf};
+ghost use Rattle.rules.specs.Reset.{resetOf, unsettled};
 ghost use Rattle.rules.specs.Evict.{spare, withShares, settledOut, evictOf};
 ghost use Rattle.rules.specs.Step.{ruleOf};
 
@@ -29,14 +27,14 @@ fn refused(machine: Machine, reason: Reason) -> Answered
 {
     Answered {
         answer: Answer::Refused(reason),
-        machine: machine,
+        machine,
     }
 }
 
 // ---- commit
 
 // Is the VID one more than LCVID? On a machine that is not sound LCVID + 1 may not fit, so LCVID is compared with VID - 1.
-fn is_next(lcvid: u64, vid: u64) -> bool
+fn is_next(lcvid: u16, vid: u16) -> bool
     ensures { λ r. ⌜ r ≡ eqb vid (suc lcvid) ⌝ }
 {
     if vid == 0 {
@@ -52,11 +50,12 @@ pub fn commit(machine: Machine, vid: u64) -> Answered
     if 64 <= vid {
         return refused(machine, Reason::VidTooLarge);
     }
-    if !is_next(machine.lcvid, vid) {
+    let v = vid as u16;
+    if !is_next(machine.lcvid, v) {
         return refused(machine, Reason::VidNotNext);
     }
     let mut next = machine;
-    next.lcvid = vid;
+    next.lcvid = v;
     Answered {
         answer: Answer::Done,
         machine: next,
@@ -70,7 +69,7 @@ fn aborted(machine: Machine) -> Machine
     ensures { λ r. ⌜ r ≡ abortOf machine ⌝ }
 {
     let lcvid = machine.lcvid;
-    moves::change(machine, Change::Abort { lcvid: lcvid })
+    moves::change(machine, Change::Abort { lcvid })
 }
 
 pub fn abort(machine: Machine) -> Answered
@@ -93,13 +92,30 @@ fn new_flight(machine: Machine) -> Machine
     next
 }
 
-// Refused where some S-M or S-E has h above LCVID.
+// Some S-M or S-E has h above LCVID.
+fn any_unsettled(machine: Machine) -> bool
+    ensures { λ r. ⌜ r ≡ unsettled machine ⌝ }
+{
+    let lcvid = machine.lcvid;
+    for c in 0..4 {
+        let k = machine.caches[c];
+        for s in 0..16 {
+            let l = k.lines[s];
+            let state = l.state;
+            let top = lines::is_top(state);
+            if top & (lcvid < l.h) {
+                return true;
+            }
+        }
+    }
+    false
+}
+
+// Refused where a line is not settled.
 pub fn reset(machine: Machine) -> Answered
     ensures { λ r. ⌜ r ≡ ruleOf machine Reset ⌝ }
 {
-    let lcvid = machine.lcvid;
-    let found = moves::find(machine, Seek::Unsettled { lcvid: lcvid });
-    if let Found::At(_) = found {
+    if any_unsettled(machine) {
         return refused(machine, Reason::NotSettled);
     }
     Answered {
@@ -131,7 +147,7 @@ fn is_spare(s: State) -> bool
 fn emptied(machine: Machine, cache: usize, slot: usize) -> Machine
     ensures { λ r. ⌜ r ≡ put (pos cache slot) empty machine ⌝ }
 {
-    let line = moves::empty_line();
+    let line = lines::empty_line();
     moves::put(machine, cache, slot, line)
 }
 
@@ -154,7 +170,7 @@ fn with_shares(machine: Machine, cache: usize, slot: usize, line: Line) -> Machi
 {
     let x = line.address;
     let m = line.m;
-    let dropped = moves::change(machine, Change::DropShares { x: x, m: m });
+    let dropped = moves::change(machine, Change::DropShares { x, m });
     emptied(dropped, cache, slot)
 }
 
@@ -177,7 +193,7 @@ fn done(machine: Machine) -> Answered
 {
     Answered {
         answer: Answer::Done,
-        machine: machine,
+        machine,
     }
 }
 

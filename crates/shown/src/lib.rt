@@ -40,7 +40,7 @@ fn before(place: usize) -> usize {
 // The line of a step, and the machine from the place of its LF on. Whatever the numbers, a slot takes at most 99 bytes, a word 24 and the report's line 128, so there is room for all.
 fn show_step(fd: i32, n: u64, answer: Answer, machine: Machine) {
     let mut out = [0u8; 8192];
-    let Wrote::Next(end) = report::write_line(&mut out, 0, n, answer, machine.lcvid) else {
+    let Wrote::Next(end) = report::write_line(&mut out, 0, n, answer, machine.lcvid as u64) else {
         return;
     };
     let lf = before(end);

@@ -54,9 +54,9 @@ fn put_place(out: &mut [u8], at: usize, cache: usize, slot: usize) -> usize {
 fn put_line(out: &mut [u8], at: usize, line: Line) -> usize {
     let state = line.state;
     let a = put_state(out, at, state);
-    let b = put_field(out, a, b" a", line.address);
-    let c = put_field(out, b, b" m", line.m);
-    let d = put_field(out, c, b" h", line.h);
+    let b = put_field(out, a, b" a", line.address as u64);
+    let c = put_field(out, b, b" m", line.m as u64);
+    let d = put_field(out, c, b" h", line.h as u64);
     put_field(out, d, b" w", line.word)
 }
 

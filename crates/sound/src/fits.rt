@@ -65,7 +65,7 @@ pub(crate) fn place(i: usize) -> Pos
 }
 
 // A live line's address, where that is below 64; 64 for every other line.
-pub(crate) fn key_of(lcvid: u64, l: Line) -> usize
+pub(crate) fn key_of(lcvid: u16, l: Line) -> usize
     ensures { λ r. ⌜ (r ≡ keyOf lcvid l) × (r < 65) ⌝ }
 {
     let live = is_live(lcvid, l);
@@ -111,7 +111,7 @@ fn pair_fits(p: Pos, q: Pos, k: Line, l: Line) -> bool
 
 // l is the owner line of the S-S k: in another cache, with its m and its word, and k's h is at most the larger of l's h and LCVID, plus 1; for an
 // S-O owner also at most l's h.
-fn owns_it(lcvid: u64, p: Pos, k: Line, q: Pos, l: Line) -> bool
+fn owns_it(lcvid: u16, p: Pos, k: Line, q: Pos, l: Line) -> bool
     requires { ⌜ (lcvid < 64) × (l .h < 65) ⌝ }
     ensures { λ r. ⌜ r ≡ ownsIt lcvid p k q l ⌝ }
 {
@@ -152,7 +152,7 @@ pub(crate) const NOTHING: Seen = Seen {
 };
 
 // What k at p has seen, and l at q too.
-pub(crate) fn see(lcvid: u64, p: Pos, k: Line, q: Pos, l: Line, seen: Seen) -> Seen
+pub(crate) fn see(lcvid: u16, p: Pos, k: Line, q: Pos, l: Line, seen: Seen) -> Seen
     requires { ⌜ (lcvid < 64) × (l .h < 65) ⌝ }
     ensures { λ r. ⌜ r ≡ seeing lcvid p k q l seen ⌝ }
 {

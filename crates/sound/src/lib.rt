@@ -11,23 +11,14 @@ use fits::needs_met;
 use fits::place;
 use fits::see;
 use fits::slot_fits;
+use lines::empty_line;
 use rules::Line;
 use rules::Machine;
-use rules::State;
 ghost use mathlib.Core.Path.{_≡_};
 ghost use mathlib.Core.Bool.{true};
 ghost use Prim.Native.Nat.{_<_};
 ghost use Rattle.rules.specs.HouseTest.{isSound};
 ghost use Rattle.sound.specs.Numbered.{allBelow, standsNo, Gathers};
-
-// An empty slot is zero in all other fields.
-const EMPTY: Line = Line {
-    state: State::I,
-    address: 0,
-    m: 0,
-    h: 0,
-    word: 0,
-};
 
 // The 64 lines in one row, slot s of cache c at 16 c + s, and whether each fits by itself. The live lines of an address are chained: its lowest stands
 // at `first[address]`, and the next one after i at `next[i]`; 64 is none. All other lines are chained from `first[64]`, where nobody looks.
@@ -42,7 +33,7 @@ struct Row {
 fn gather(machine: Machine) -> Row
     ensures { λ r. ⌜ Gathers machine 0 (r .fits) (r .lines) (r .first) (r .next) ⌝ }
 {
-    let empty = EMPTY;
+    let empty = empty_line();
     let mut fits = true;
     let mut lines = [empty; 64];
     let mut first = [64usize; 65];

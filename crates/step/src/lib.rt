@@ -2,7 +2,7 @@
 //
 // Every function here is proved to give what its definition in `rules` says, for every machine and every step handed in: none has a `requires`, and the machine that
 // a refused call hands back is in the contract too. The crate assumes nothing.
-use moves::empty_line;
+use lines::empty_line;
 use rules::Answer;
 use rules::Answered;
 use rules::Cache;

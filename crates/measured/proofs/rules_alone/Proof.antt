@@ -12,10 +12,10 @@ abbrev μ-loop : tie.MeasureT-loop
 μ-loop fresh text from times ops₀ at₀ count₀ left₀ ops at count left = left
 
 abbrev Inv-loop3 : tie.InvT-loop3
-Inv-loop3 fresh text from times ops at count left sum₀ machine₀ n₀ counter sum machine n = (count ≤ 2048) × (n ≤ count) × (counter < times)
+Inv-loop3 fresh text from times ops at count left sum₀ did₀ n₀ counter sum did n = (count ≤ 2048) × (n ≤ count) × (counter < times)
 
 abbrev μ-loop3 : tie.MeasureT-loop3
-μ-loop3 fresh text from times ops at count left sum₀ machine₀ n₀ counter sum machine n = count - n
+μ-loop3 fresh text from times ops at count left sum₀ did₀ n₀ counter sum did n = count - n
 
 abbrev Inv-loop2 : tie.InvT-loop2
 Inv-loop2 fresh text from times ops at count left sum₀ counter₀ sum counter = (count ≤ 2048) × (counter ≤ times)

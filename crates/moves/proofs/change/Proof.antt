@@ -1,28 +1,17 @@
 -- Every line changed. The loop's invariant: those of the caches before number c are, and nothing else has changed.
 -- Assumes nothing.
 use mathlib.Core.Path.{_≡_, refl, _∙_, ap}
-use mathlib.Core.List.{List}
-use Prim.Native.Nat.{ℕ, _≤_, _-_}
+use Prim.Native.Nat.{_≤_, _-_}
 use native.Mathlib.Omega.{arith}
 use borrow.Author.Needs.{needs}
-use Rattle.rules.specs.declared.Cache.{Cache}
 use Rattle.rules.specs.declared.Machine.{Machine}
-use Rattle.rules.specs.Lists.{mapAt}
-use Rattle.rules.specs.Machine.{pos, noCache, withCaches, change}
+use Rattle.rules.specs.Machine.{noCache, withCaches, change}
 use Rattle.rules.proofs.Shape.{shape}
-use Rattle.moves.specs.declared.changes.Change.{Change}
 use Rattle.moves.specs.Change.{changed}
+use Rattle.moves.proofs.Caches.{becomes, turn}
 use Rattle.moves.proofs.Loops.{mapFirst, map-turn, map-done}
 use Rattle.moves.proofs.change.Statement.{statement}
 use Rattle.moves.proofs.change.Tie as tie
-
--- what becomes of a cache
-abbrev becomes : Change → ℕ → Cache → Cache
-becomes ch c k = record { lines = mapAt (λ s l. changed ch (pos c s) l) (k .lines) }
-
--- a machine that differs from μ in its caches alone, with other caches
-turn : (μ ν : Machine) {js ks ls : List Cache} → ls ≡ ks → ν ≡ withCaches μ js → withCaches ν ls ≡ withCaches μ ks
-turn μ ν e g = rw (g, e)
 
 abbrev Inv-loop : tie.InvT-loop
 Inv-loop ch next₀ c₀ next c = (c ≤ 4) × (next ≡ withCaches next₀ (mapFirst (becomes ch) c (next₀ .caches)))

@@ -1,7 +1,8 @@
--- Every line changed. The loop's invariant: those before slot s are.
+-- Every line changed. The loop's invariant: those before slot s are; a line that the change can't reach is left alone.
 -- Assumes nothing.
-use mathlib.Core.Path.{_≡_, refl, _∙_, ap}
+use mathlib.Core.Path.{_≡_, refl, sym, _∙_, ap}
 use mathlib.Core.List.{List}
+use mathlib.Core.Logic.{⊎-elim}
 use Prim.Native.Nat.{ℕ, _≤_, _-_}
 use native.Mathlib.Omega.{arith}
 use borrow.Author.Needs.{needs}
@@ -12,7 +13,8 @@ use Rattle.rules.specs.Machine.{pos}
 use Rattle.rules.proofs.Shape.{lines-16}
 use Rattle.moves.specs.declared.changes.Change.{Change}
 use Rattle.moves.specs.Change.{changed}
-use Rattle.moves.proofs.Loops.{mapFirst, map-turn, map-done}
+use Rattle.moves.proofs.Loops.{mapFirst, map-turn, map-stays, map-done}
+use Rattle.moves.proofs.Reached.{unreached-stays}
 use Rattle.moves.proofs.change_in.Statement.{statement}
 use Rattle.moves.proofs.change_in.Tie as tie
 
@@ -38,11 +40,14 @@ mul-l c = search needs
 element-copy-out-l : tie.Need-element-copy-out-l Inv-loop μ-loop
 element-copy-out-l c = search needs
 
+reaches-requires : tie.Need-reaches-requires Inv-loop μ-loop
+reaches-requires c κs = search needs
+
 changed-line-requires : tie.Need-changed-line-requires Inv-loop μ-loop
 changed-line-requires c κs = search needs
 
-mul-t9 : tie.Need-mul-t9 Inv-loop μ-loop
-mul-t9 c = search needs
+mul-t15 : tie.Need-mul-t15 Inv-loop μ-loop
+mul-t15 c = search needs
 
 element-set-from-next : tie.Need-element-set-from-next Inv-loop μ-loop
 element-set-from-next c = search needs
@@ -55,10 +60,16 @@ loop-less c = search needs
 
 loop-again : tie.Need-loop-again Inv-loop μ-loop
 loop-again c =
-    let q = c .before .before .before in
+    let q = c .before .before .before .before in
     let k = q .before .args .k in
     let h = lines-16 k _ (q .before .good .0) in
-    (search needs, map-turn (becomes (q .before .args .ch) (q .before .args .c)) (k .lines) empty (q .loop .s) (omega (arith, h)) (q .loop .inv .1) (c .changed-line .ensures))
+    let b = becomes (q .before .args .ch) (q .before .args .c) in (
+      search needs,
+      ⊎-elim
+          (λ w. ap (λ (j : Cache). j .lines) (w .2) ∙ map-turn b (k .lines) empty (q .loop .s) (omega (arith, h)) (q .loop .inv .1) (w .1 .ensures))
+          (λ w. ap (λ (j : Cache). j .lines) (w .1) ∙ map-stays b (k .lines) empty (q .loop .s) (omega (arith, h)) (q .loop .inv .1) (unreached-stays (q .before .args .ch) _ _ (sym (c .before .reaches .ensures) ∙ w .0 .left)))
+          (c .if1 .came),
+    )
 
 returns : tie.Need-returns Inv-loop μ-loop
 returns c =
@@ -76,8 +87,9 @@ change-in-spec =
     loop-holds
     mul-l
     element-copy-out-l
+    reaches-requires
     changed-line-requires
-    mul-t9
+    mul-t15
     element-set-from-next
     add-s
     loop-less

@@ -118,14 +118,14 @@ returns-3 c =
 
 play-steps-requires : tie.Need-play-steps-requires
 play-steps-requires c κs =
-    rw (c .before .before .before .make .ensures) (make-sound _ (replicate 64 0) (length-replicate {A = ℕ} 64 0))
+    rw (c .before .before .make .ensures) (make-sound _ (replicate 64 0) (length-replicate {A = ℕ} 64 0))
 
 same-length-4 : tie.Need-same-length-4
 same-length-4 c = search needs
 
 returns-4 : tie.Need-returns-4
 returns-4 c =
-    let a = c .before .before .before .before .before in
+    let a = c .before .before .before .before in
     let d = a .before in
     let f = d .before .before in
     let l = f .before .before in

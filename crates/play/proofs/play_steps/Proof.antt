@@ -13,11 +13,12 @@ use Rattle.play.proofs.play_steps.Statement.{statement}
 use Rattle.play.proofs.play_steps.Tie as tie
 
 abbrev Inv-loop : tie.InvT-loop
-Inv-loop text from out₀ machine₀ at₀ end₀ n₀ left₀ out machine at end n left =
-    (n + left ≤ length text + 1) × ((House machine × Sized machine) × Telling (linesFrom (length text) text from 1 machine₀) out₀ end out (linesFrom left text at n machine))
+Inv-loop text from out₀ did₀ at₀ end₀ n₀ left₀ out did at end n left =
+    (n + left ≤ length text + 1)
+    × ((House (did .machine) × Sized (did .machine)) × Telling (linesFrom (length text) text from 1 (did₀ .machine)) out₀ end out (linesFrom left text at n (did .machine)))
 
 abbrev μ-loop : tie.MeasureT-loop
-μ-loop text from out₀ machine₀ at₀ end₀ n₀ left₀ out machine at end n left = left
+μ-loop text from out₀ did₀ at₀ end₀ n₀ left₀ out did at end n left = left
 
 loop-holds : tie.Need-loop-holds Inv-loop μ-loop
 loop-holds c = (search needs, (c .before .before .pre, telling-none _ _))
@@ -30,6 +31,9 @@ enum-known-read c = search needs
 
 rule-requires : tie.Need-rule-requires Inv-loop μ-loop
 rule-requires c κs = search needs
+
+wide-requires : tie.Need-wide-requires Inv-loop μ-loop
+wide-requires c κs = search needs
 
 write-line-requires : tie.Need-write-line-requires Inv-loop μ-loop
 write-line-requires c κs = search needs
@@ -48,7 +52,7 @@ returns c =
     let l = a .before .before in
     let loop = l .before .before .loop in
     telling-refused (loop .inv .1 .1)
-    (turn-steps _ _ _ _ _ (l .before .loop-test .taken) (sym (l .read-at .ensures) ∙ a .read .given .1) (stepped (loop .inv .1 .0) _ (d .rule .ensures))) (w .write-line .ensures) _ (c .enum-told .given .1)
+    (turn-steps _ _ _ _ _ (l .before .loop-test .taken) (sym (l .read-at .ensures) ∙ a .read .given .1) (stepped (loop .inv .1 .0) _ (d .rule .ensures))) (rw (w .before .before .wide .ensures) at (w .write-line .ensures)) _ (c .enum-told .given .1)
 
 same-length : tie.Need-same-length Inv-loop μ-loop
 same-length c = plays-length (returns c)
@@ -70,7 +74,7 @@ loop-again c =
     let l = a .before .before in
     let loop = l .before .before .loop in
     let more = telling-wrote (loop .inv .1 .1)
-    (turn-steps _ _ _ _ _ (l .before .loop-test .taken) (sym (l .read-at .ensures) ∙ a .read .given .1) (stepped (loop .inv .1 .0) _ (d .rule .ensures))) (w .write-line .ensures) _ (c .before .last .given .1) in
+    (turn-steps _ _ _ _ _ (l .before .loop-test .taken) (sym (l .read-at .ensures) ∙ a .read .given .1) (stepped (loop .inv .1 .0) _ (d .rule .ensures))) (rw (w .before .before .wide .ensures) at (w .write-line .ensures)) _ (c .before .last .given .1) in
     (omega (arith, loop .inv .0, l .before .loop-test .taken), (stepped-sound (loop .inv .1 .0) _ (d .rule .ensures), more))
 
 enum-told-2 : tie.Need-enum-told-2 Inv-loop μ-loop
@@ -117,6 +121,7 @@ play-steps-spec =
     read-at-requires
     enum-known-read
     rule-requires
+    wide-requires
     write-line-requires
     enum-known-last
     enum-told

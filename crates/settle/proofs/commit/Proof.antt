@@ -15,6 +15,9 @@ returns : tie.Need-returns
 unfolding ruleOf
 returns c = rw (c .refused .ensures, le-leb _ _ (c .before .if1 .taken))
 
+cast-v : tie.Need-cast-v
+cast-v c = search needs
+
 is-next-requires : tie.Need-is-next-requires
 is-next-requires c κs = search needs
 
@@ -37,6 +40,7 @@ commit-spec =
     (tie.spec
     refused-requires
     returns
+    cast-v
     is-next-requires
     refused-requires-2
     returns-2

@@ -8,6 +8,9 @@ use borrow.Author.Needs.{needs}
 use Rattle.settle.proofs.written_back.Statement.{statement}
 use Rattle.settle.proofs.written_back.Tie as tie
 
+cast-i : tie.Need-cast-i
+cast-i c = search needs
+
 mul-next : tie.Need-mul-next
 mul-next c = search needs
 
@@ -26,4 +29,4 @@ returns-2 c =
     rw (set-out (μ .memory) (b .args .line .address) _ (omega (arith, shape μ _ (b .good .0) .words)))
 
 pub written-back-spec : {M : Type 1} → statement M
-written-back-spec = tie.close (tie.spec mul-next element-write-next returns returns-2)
+written-back-spec = tie.close (tie.spec cast-i mul-next element-write-next returns returns-2)

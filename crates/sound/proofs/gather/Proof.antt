@@ -22,6 +22,9 @@ Inv-loop machine fits₀ lines₀ first₀ next₀ lcvid c₀ fits lines first n
 abbrev μ-loop : tie.MeasureT-loop
 μ-loop machine fits₀ lines₀ first₀ next₀ lcvid c₀ fits lines first next c = c
 
+empty-line-requires : tie.Need-empty-line-requires Inv-loop2 μ-loop2 Inv-loop μ-loop
+empty-line-requires c κs = search needs
+
 loop-holds : tie.Need-loop-holds Inv-loop2 μ-loop2 Inv-loop μ-loop
 loop-holds c = (search needs, gathers-none _ _ _ refl refl)
 
@@ -99,7 +102,7 @@ loop2-again : tie.Need-loop2-again Inv-loop2 μ-loop2 Inv-loop μ-loop
 loop2-again c =
     let q = c .before .before .before .before in
     let p = q .before .before .before in
-    let μ = p .before .args .t1 in
+    let μ = p .before .before .args .t1 in
     let k = p .loop .c - 1 in
     let s = q .loop2 .s - 1 in
     let n = 16 * k + s in
@@ -122,6 +125,7 @@ gather-spec =
     μ-loop2
     Inv-loop
     μ-loop
+    empty-line-requires
     loop-holds
     sub-c
     mul-cache

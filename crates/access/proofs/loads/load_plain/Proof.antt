@@ -1,12 +1,12 @@
--- The answer is the definition's, by whether the asker has a plain line.
+-- The rule's case, by which plain lines were seen.
 -- Assumes nothing.
+use mathlib.Core.Bool.{false}
+use Rattle.access.specs.Plan.{carried}
+use Rattle.access.proofs.Carried.{stay-changes, answering-gives}
+use Rattle.access.proofs.Found.{plain-held}
 use borrow.Author.Needs.{needs}
-use Rattle.rules.specs.Data.{read}
 use Rattle.access.proofs.loads.load_plain.Statement.{statement}
 use Rattle.access.proofs.loads.load_plain.Tie as tie
-
-find-requires : tie.Need-find-requires
-find-requires c κs = search needs
 
 enum-known-own : tie.Need-enum-known-own
 enum-known-own c = search needs
@@ -14,27 +14,49 @@ enum-known-own c = search needs
 enum-told : tie.Need-enum-told
 enum-told c = search needs
 
-load-cached-requires : tie.Need-load-cached-requires
-load-cached-requires c κs = search needs
+enum-known-plain : tie.Need-enum-known-plain
+enum-known-plain c = search needs
+
+enum-told-2 : tie.Need-enum-told-2
+enum-told-2 c = search needs
+
+place-plain-requires : tie.Need-place-plain-requires
+place-plain-requires c κs = search needs
 
 returns : tie.Need-returns
-returns c = rw (c .load-cached .ensures, ← c .before .before .before .find .ensures, c .before .enum-told .given .1)
+unfolding carried
+returns c = λ k μ f.
+    let b = c .before .before .before .before .before .args in
+    rw (c .place-plain .ensures, plain-held μ false k 0 (b .x), ← f .0, ← f .1 .0, c .before .before .before .enum-told .given .1, c .before .enum-told2 .given .1, f .1 .1, stay-changes)
 
-line-at-requires : tie.Need-line-at-requires
-line-at-requires c κs = search needs
+place-plain-requires-2 : tie.Need-place-plain-requires-2
+place-plain-requires-2 c κs = search needs
 
 returns-2 : tie.Need-returns-2
-unfolding read
-returns-2 c = rw (c .line-at .ensures, ← c .before .before .before .before .find .ensures, c .before .before .own .given .1)
+unfolding carried
+returns-2 c = λ k μ f.
+    let b = c .before .before .before .before .before .before .args in
+    rw (c .place-plain2 .ensures, plain-held μ false k 0 (b .x), ← f .0, ← f .1 .0, c .before .before .before .before .enum-told .given .1, c .before .before .plain .given .1)
+
+only-requires : tie.Need-only-requires
+only-requires c κs = search needs
+
+returns-3 : tie.Need-returns-3
+returns-3 c = λ k μ f.
+    let b = c .before .before .before .before .args in
+    rw (c .only .ensures, plain-held μ false k 0 (b .x), ← f .0, c .before .before .own .given .1, answering-gives)
 
 pub load-plain-spec : {M : Type 1} → statement M
 load-plain-spec =
     tie.close
     (tie.spec
-    find-requires
     enum-known-own
     enum-told
-    load-cached-requires
+    enum-known-plain
+    enum-told-2
+    place-plain-requires
     returns
-    line-at-requires
-    returns-2)
+    place-plain-requires-2
+    returns-2
+    only-requires
+    returns-3)

@@ -1,52 +1,24 @@
--- The answer is the definition's, by what the callees give.
+-- The rule's case of an owner, by what is left of it.
 -- Assumes nothing.
+use Rattle.access.proofs.Carried.{owner-left}
 use borrow.Author.Needs.{needs}
-use Rattle.rules.specs.Machine.{drop}
-use Rattle.access.proofs.Searches.{from-owner}
 use Rattle.access.proofs.stores.store_owned.Statement.{statement}
 use Rattle.access.proofs.stores.store_owned.Tie as tie
-
-line-at-requires : tie.Need-line-at-requires
-line-at-requires c κs = search needs
 
 owner-after-requires : tie.Need-owner-after-requires
 owner-after-requires c κs = search needs
 
-change-requires : tie.Need-change-requires
-change-requires c κs = search needs
-
-put-requires : tie.Need-put-requires
-put-requires c κs = search needs
-
 version-requires : tie.Need-version-requires
 version-requires c κs = search needs
 
-place-requires : tie.Need-place-requires
-place-requires c κs = search needs
+places-one-requires : tie.Need-places-one-requires
+places-one-requires c κs = search needs
 
 returns : tie.Need-returns
-unfolding drop
-returns c =
+returns c = λ k μ f.
     let b = c .before .before .before in
-    let s = b .before .before .before in
-    rw (
-      from-owner _ _ _ _ _ _ (s .pre),
-      c .place .ensures,
-      c .before .version .ensures,
-      c .before .before .put .ensures,
-      b .change .ensures,
-      b .before .owner-after .ensures,
-      b .before .before .line-at .ensures,
-    )
+    rw (c .places-one .ensures, c .before .version .ensures) (owner-left μ k (b .args .a) (b .args .x) (b .args .word) (b .args .o) f (b .pre) (c .before .before .owner-after .ensures))
 
 pub store-owned-spec : {M : Type 1} → statement M
 store-owned-spec =
-    tie.close
-    (tie.spec
-    line-at-requires
-    owner-after-requires
-    change-requires
-    put-requires
-    version-requires
-    place-requires
-    returns)
+    tie.close (tie.spec owner-after-requires version-requires places-one-requires returns)

@@ -14,6 +14,9 @@ abbrev μ-loop : tie.MeasureT-loop
 loop-holds : tie.Need-loop-holds Inv-loop μ-loop
 loop-holds c = search needs
 
+cast-put : tie.Need-cast-put Inv-loop μ-loop
+cast-put c = search needs
+
 put-requires : tie.Need-put-requires Inv-loop μ-loop
 put-requires c κs = search needs
 
@@ -30,4 +33,4 @@ returns : tie.Need-returns Inv-loop μ-loop
 returns c = search needs
 
 pub fill-spec : {M : Type 1} → statement M
-fill-spec = tie.close (tie.spec Inv-loop μ-loop loop-holds put-requires add-n loop-less loop-again returns)
+fill-spec = tie.close (tie.spec Inv-loop μ-loop loop-holds cast-put put-requires add-n loop-less loop-again returns)

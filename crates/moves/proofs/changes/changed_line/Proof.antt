@@ -47,6 +47,9 @@ enum-told c = search needs
 reset-line-requires : tie.Need-reset-line-requires
 reset-line-requires c κs = search needs
 
+enum-told-2 : tie.Need-enum-told-2
+enum-told-2 c = search needs
+
 returns : tie.Need-returns
 unfolding isOf
 returns c = rw (c .before .before .before .ch .given .1) (c .drop-if .ensures)
@@ -67,6 +70,9 @@ returns-5 c = rw (c .before .before .ch5 .given .1) (c .abort-line .ensures)
 returns-6 : tie.Need-returns-6
 returns-6 c = rw (c .before .enum-told .given .1) (c .reset-line .ensures)
 
+returns-7 : tie.Need-returns-7
+returns-7 c = rw (c .enum-told2 .given .1)
+
 pub changed-line-spec : {M : Type 1} → statement M
 changed-line-spec =
     tie.close
@@ -85,9 +91,11 @@ changed-line-spec =
     abort-line-requires
     enum-told
     reset-line-requires
+    enum-told-2
     returns
     returns-2
     returns-3
     returns-4
     returns-5
-    returns-6)
+    returns-6
+    returns-7)

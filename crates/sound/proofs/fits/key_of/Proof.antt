@@ -12,16 +12,20 @@ use Rattle.sound.proofs.fits.key_of.Tie as tie
 is-live-requires : tie.Need-is-live-requires
 is-live-requires c κs = search needs
 
+cast-result : tie.Need-cast-result
+cast-result c = search needs
+
 returns : tie.Need-returns
 unfolding keyOf
 returns c =
-    let k = c .before .before in
+    let q = c .before in
+    let k = q .before .before in
     let a = k .before .args .l .address in
-    (rw (← k .is-live .ensures, c .if1 .taken), omega (arith, ltb-true a 64 (right (k .is-live .result) (ltb a 64) (c .if1 .taken))))
+    (rw (← k .is-live .ensures, q .if1 .taken), omega (arith, ltb-true a 64 (right (k .is-live .result) (ltb a 64) (q .if1 .taken))))
 
 returns-2 : tie.Need-returns-2
 unfolding keyOf
 returns-2 c = (rw (← c .before .before .is-live .ensures, c .if1 .left), omega arith)
 
 pub key-of-spec : {M : Type 1} → statement M
-key-of-spec = tie.close (tie.spec is-live-requires returns returns-2)
+key-of-spec = tie.close (tie.spec is-live-requires cast-result returns returns-2)
