@@ -6,3 +6,4 @@ pub mod Walk
 pub mod Found
 pub mod Searches
 pub mod Carried
+pub mod Asks

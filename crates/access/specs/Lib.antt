@@ -3,3 +3,4 @@ pub mod Checks
 pub mod Look
 pub mod Plan
 pub mod Search
+pub mod Ask

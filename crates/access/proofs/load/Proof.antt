@@ -1,73 +1,53 @@
--- A refusal is what the tests give, and else the plan that is carried out is the load's rule.
+-- A refusal is what asking gives, and else the plan that is carried out is the load's rule.
 -- Assumes nothing.
-use mathlib.Core.Path.{refl, _∙_}
-use native.Mathlib.Omega.{arith}
-use Rattle.rules.specs.Machine.{memoryAt}
+use mathlib.Core.Path.{sym, _∙_, ap}
+use Rattle.rules.specs.Load.{loadOf}
 use Rattle.rules.specs.Step.{ruleOf}
-use Rattle.access.proofs.Verdicts.{checked-told, passed}
+use Rattle.access.specs.declared.ask.Asked.{Asked}
+use Rattle.access.proofs.Asks.{barred, goes}
 use borrow.Author.Needs.{needs}
 use Rattle.access.proofs.load.Statement.{statement}
 use Rattle.access.proofs.load.Tie as tie
 
-judge-requires : tie.Need-judge-requires
-judge-requires c κs = search needs
+ask-requires : tie.Need-ask-requires
+ask-requires c κs = search needs
 
-enum-known-verdict : tie.Need-enum-known-verdict
-enum-known-verdict c = search needs
+enum-known-asking : tie.Need-enum-known-asking
+enum-known-asking c = search needs
 
-returns : tie.Need-returns
-unfolding ruleOf
-returns c = rw (checked-told, ← c .before .before .before .judge .ensures, c .before .verdict .given .1)
+refused-requires : tie.Need-refused-requires
+refused-requires c κs = search needs
 
-enum-told : tie.Need-enum-told
-enum-told c = search needs
-
-mul-memory : tie.Need-mul-memory
-mul-memory c = let h = passed _ _ _ _ _ (c .before .before .judge .ensures) (c .enum-told .given .1) .address in omega (arith, h)
-
-element-copy-out-memory : tie.Need-element-copy-out-memory
-element-copy-out-memory c = let h = passed _ _ _ _ _ (c .before .before .judge .ensures) (c .enum-told .given .1) .address in omega (arith, h)
-
-cast-x : tie.Need-cast-x
-cast-x c = let h = passed _ _ _ _ _ (c .before .before .before .judge .ensures) (c .before .enum-told .given .1) .address in omega (arith, h)
-
-cast-v : tie.Need-cast-v
-cast-v c = let h = passed _ _ _ _ _ (c .before .before .before .judge .ensures) (c .before .enum-told .given .1) .vid in omega (arith, h)
-
-acts-with-requires : tie.Need-acts-with-requires
-acts-with-requires c κs = search needs
-
-look-requires : tie.Need-look-requires
-look-requires c κs = search needs
+enum-known-asking-2 : tie.Need-enum-known-asking-2
+enum-known-asking-2 c = search needs
 
 load-plan-requires : tie.Need-load-plan-requires
-load-plan-requires c κs = rw (c .before .acts-with .ensures) (passed _ _ _ _ _ (c .before .before .before .before .before .judge .ensures) (c .before .before .before .enum-told .given .1) .number)
+load-plan-requires c κs = goes _ _ _ _ (sym (c .before .before .before .before .ask .ensures) ∙ c .before .before .asking2 .given .1) .number
 
 carry-requires : tie.Need-carry-requires
 carry-requires c κs = search needs
 
+returns : tie.Need-returns
+unfolding ruleOf
+returns c = rw (c .refused .ensures) (sym (barred _ _ _ _ (sym (c .before .before .before .before .ask .ensures) ∙ c .before .before .asking .given .1) _))
+
 returns-2 : tie.Need-returns-2
-unfolding ruleOf memoryAt
+unfolding ruleOf
 returns-2 c =
-    let p = c .before in
-    let e = p .before .before .before .before .enum-told .given .1 in
-    let j = p .before .before .before .before .before .before .judge .ensures in
-    rw (c .carry .ensures ∙ p .load-plan .ensures _ (p .before .look .ensures, refl), p .before .before .acts-with .ensures, checked-told, ← j, e)
+    let q = c .before .before .before .before in
+    let b = q .before .before .before .args in
+    let g = goes (b .machine) (b .cache) (b .vid) (b .at) (sym (q .before .before .ask .ensures) ∙ q .asking2 .given .1) in
+    rw (g .passes) (c .carry .ensures ∙ c .before .load-plan .ensures (b .machine) (g .sees) ∙ ap (λ (k : Asked). loadOf (b .machine) (k .vid) (b .cache) (k .a) (k .x) 0) (g .same))
 
 pub load-spec : {M : Type 1} → statement M
 load-spec =
     tie.close
     (tie.spec
-    judge-requires
-    enum-known-verdict
-    returns
-    enum-told
-    mul-memory
-    element-copy-out-memory
-    cast-x
-    cast-v
-    acts-with-requires
-    look-requires
+    ask-requires
+    enum-known-asking
+    refused-requires
+    enum-known-asking-2
     load-plan-requires
     carry-requires
+    returns
     returns-2)
