@@ -12,9 +12,11 @@ use Rattle.access.specs.declared.ask.Asking.the-variants.{Goes, Barred}
 use Rattle.access.specs.Checks.{judged}
 use Rattle.access.specs.Look.{seenOf}
 
+-- what is asked, and what is seen of it
 abbrev pub asks : Machine → ℕ → ℕ → ℕ → Asked
 asks μ c v at = record { vid = hasVid v; a = actsWith (μ .lcvid) v; x = at; memory = memoryAt μ at; seen = seenOf μ c (actsWith (μ .lcvid) v) at }
 
+-- it goes on where the checks pass, and else has their reason
 abbrev pub onVerdict : Asked → Verdict → Asking
 onVerdict k Pass = Goes k
 onVerdict k (Refuse r) = Barred r

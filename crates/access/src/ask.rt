@@ -18,11 +18,13 @@ pub struct Asked {
     pub seen: Seen,
 }
 
+// It goes on, or is refused under 2 to 7.
 pub enum Asking {
     Goes(Asked),
     Barred(Reason),
 }
 
+// The checks, and then one look over all lines. The address and the VID are below 64 behind the checks, and fit.
 pub fn ask(machine: Machine, cache: usize, vid: u64, at: u64) -> Asking
     ensures { λ r. ⌜ r ≡ askedOf machine cache vid at ⌝ }
 {

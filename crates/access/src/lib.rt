@@ -13,30 +13,17 @@ mod stores;
 use ask::Asking;
 use ask::ask;
 use loads::load_plan;
+use moves::refused;
 use plans::carry;
-use rules::Answer;
 use rules::Answered;
 use rules::Machine;
-use rules::Reason;
 use stores::Search;
 use stores::misspeculation;
 use stores::search_owner;
 use stores::store_plan;
 ghost use mathlib.Core.Path.{_≡_};
 ghost use Rattle.rules.specs.declared.Op.the-variants.{Load, Store};
-ghost use Rattle.rules.specs.declared.Answer.the-variants.{Refused};
-ghost use Rattle.rules.specs.Machine.{gives};
 ghost use Rattle.rules.specs.Step.{ruleOf};
-
-// A refusal: the machine as it was.
-fn refused(machine: Machine, reason: Reason) -> Answered
-    ensures { λ r. ⌜ r ≡ gives (Refused reason) machine ⌝ }
-{
-    Answered {
-        answer: Answer::Refused(reason),
-        machine,
-    }
-}
 
 // A load of the address `at` by a cache, plain where `vid` is 0.
 pub fn load(machine: Machine, cache: usize, vid: u64, at: u64) -> Answered

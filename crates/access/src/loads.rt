@@ -43,8 +43,8 @@ pub fn load_plan(seen: Seen, memory: u64, vid: bool, cache: usize, a: u16, x: u1
     load_owned(share, vid, cache, a, x, o, l)
 }
 
-// A plan that changes nothing.
-fn only(word: u64) -> Plan
+// The plan that answers with a word, and changes nothing.
+fn value_only(word: u64) -> Plan
     ensures { λ r. ⌜ r ≡ answering (Value word) ⌝ }
 {
     Plan {
@@ -89,7 +89,7 @@ fn load_owned(share: Held, vid: bool, cache: usize, a: u16, x: u16, o: Pos, l: L
             places: Places::One(new),
         };
     };
-    only(k.word)
+    value_only(k.word)
 }
 
 // What is put in the slot of the owner `l` that was read: a plain load leaves it as it is.
@@ -167,7 +167,7 @@ fn load_plain(own: Held, plain: Held, memory: u64, x: u16) -> Plan
         };
         return place_plain(State::S, x, l.word, Change::Demote { x });
     };
-    only(k.word)
+    value_only(k.word)
 }
 
 // The plan that places a plain line with the value, after a change.

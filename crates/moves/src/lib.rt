@@ -1,4 +1,4 @@
-// Moves over the machine: a line read and put, one change of all lines, and placing.
+// Moves over the machine: a line read and put, one change of all lines, refusing, and placing.
 //
 // Every function here is proved to give what its definition says, has no `requires`, and the crate assumes nothing.
 mod changes;
@@ -19,7 +19,6 @@ use rules::Reason;
 use rules::Room;
 ghost use mathlib.Core.Path.{_≡_};
 ghost use Rattle.rules.specs.declared.Answer.the-variants.{Refused};
-ghost use Rattle.rules.specs.declared.Reason.the-variants.{NoRoom};
 ghost use Rattle.rules.specs.Lists.{mapAt};
 ghost use Rattle.rules.specs.Machine.{pos, at, change, put, freeIn, gives, place, placeTwo};
 ghost use Rattle.moves.specs.Change.{changed};
@@ -86,6 +85,18 @@ pub fn change(machine: Machine, ch: Change) -> Machine
     next
 }
 
+// ---- refusing
+
+// A refusal with its reason, and the machine as it was.
+pub fn refused(machine: Machine, reason: Reason) -> Answered
+    ensures { λ r. ⌜ r ≡ gives (Refused reason) machine ⌝ }
+{
+    Answered {
+        answer: Answer::Refused(reason),
+        machine,
+    }
+}
+
 // ---- placing
 
 // The lowest free slot of a cache: one that is empty or dead.
@@ -101,28 +112,18 @@ fn free_in(k: Cache, lcvid: u16) -> Room
     Room::Full
 }
 
-// Refusal 11.
-fn no_room(machine: Machine) -> Answered
-    ensures { λ r. ⌜ r ≡ gives (Refused NoRoom) machine ⌝ }
-{
-    Answered {
-        answer: Answer::Refused(Reason::NoRoom),
-        machine,
-    }
-}
-
 // A line in the lowest free slot of a cache of `after`, with the answer; where there is none, refusal 11, and `before` comes back.
 pub fn place(before: Machine, answer: Answer, cache: usize, line: Line, after: Machine) -> Answered
     ensures { λ r. ⌜ r ≡ place before answer cache line after ⌝ }
 {
     if 4 <= cache {
-        return no_room(before);
+        return refused(before, Reason::NoRoom);
     }
     let mut placed = after;
     let mut k = placed.caches[cache];
     let room = free_in(k, placed.lcvid);
     let Room::Slot(s) = room else {
-        return no_room(before);
+        return refused(before, Reason::NoRoom);
     };
     k.lines[s] = line;
     placed.caches[cache] = k;
@@ -144,13 +145,13 @@ pub fn place_two(
     ensures { λ r. ⌜ r ≡ placeTwo before answer cache first second after ⌝ }
 {
     if 4 <= cache {
-        return no_room(before);
+        return refused(before, Reason::NoRoom);
     }
     let mut next = after;
     let mut k = next.caches[cache];
     let room = free_in(k, next.lcvid);
     let Room::Slot(s) = room else {
-        return no_room(before);
+        return refused(before, Reason::NoRoom);
     };
     k.lines[s] = first;
     next.caches[cache] = k;

@@ -3,6 +3,7 @@
 // Every function here is proved. The four public ones have no `requires`, and give what the step without the test of the house rules gives, on every machine.
 // The crate assumes nothing.
 use moves::Change;
+use moves::refused;
 use rules::Answer;
 use rules::Answered;
 use rules::Line;
@@ -20,16 +21,6 @@ ghost use Rattle.rules.specs.Abort.{abortOf};
 ghost use Rattle.rules.specs.Reset.{resetOf, unsettled};
 ghost use Rattle.rules.specs.Evict.{spare, withShares, settledOut, evictOf};
 ghost use Rattle.rules.specs.Step.{ruleOf};
-
-// The machine comes back unchanged.
-fn refused(machine: Machine, reason: Reason) -> Answered
-    ensures { λ r. ⌜ r ≡ gives (Refused reason) machine ⌝ }
-{
-    Answered {
-        answer: Answer::Refused(reason),
-        machine,
-    }
-}
 
 // ---- commit
 

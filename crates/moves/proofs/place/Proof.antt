@@ -9,15 +9,15 @@ use Rattle.moves.proofs.Slots.{free-16}
 use Rattle.moves.proofs.place.Statement.{statement}
 use Rattle.moves.proofs.place.Tie as tie
 
-no-room-requires : tie.Need-no-room-requires
-no-room-requires c κs = search needs
+refused-requires : tie.Need-refused-requires
+refused-requires c κs = search needs
 
 returns : tie.Need-returns
 unfolding place freeSlot firstAt
 returns c =
     let b = c .before .before in
     let μ = b .args .after in
-    rw (c .no-room .ensures, no-cache μ (shape μ _ (b .good .1 .1 .1 .1 .0)) (b .args .cache) (c .before .if1 .taken))
+    rw (c .refused .ensures, no-cache μ (shape μ _ (b .good .1 .1 .1 .1 .0)) (b .args .cache) (c .before .if1 .taken))
 
 mul-k : tie.Need-mul-k
 mul-k c = search needs
@@ -34,12 +34,12 @@ enum-known-room c = search needs
 enum-told : tie.Need-enum-told
 enum-told c = search needs
 
-no-room-requires-2 : tie.Need-no-room-requires-2
-no-room-requires-2 c κs = search needs
+refused-requires-2 : tie.Need-refused-requires-2
+refused-requires-2 c κs = search needs
 
 returns-2 : tie.Need-returns-2
 unfolding place freeSlot
-returns-2 c = rw (c .no-room2 .ensures, ← c .before .before .before .free-in .ensures, c .before .enum-told .given .1)
+returns-2 c = rw (c .refused2 .ensures, ← c .before .before .before .free-in .ensures, c .before .enum-told .given .1)
 
 mul-line : tie.Need-mul-line
 mul-line c =
@@ -55,8 +55,8 @@ element-set-from-line c =
     let h = free-16 μ (shape μ _ (b .good .1 .1 .1 .1 .0)) (b .args .cache) (μ .lcvid) (c .before .before .before .before .before .if1 .left) (c .before .before .before .free-in .ensures) (c .before .room .given .1) in
     omega (arith, h)
 
-mul-t11 : tie.Need-mul-t11
-mul-t11 c = search needs
+mul-t12 : tie.Need-mul-t12
+mul-t12 c = search needs
 
 element-set-from-placed : tie.Need-element-set-from-placed
 element-set-from-placed c = search needs
@@ -69,17 +69,17 @@ pub place-spec : {M : Type 1} → statement M
 place-spec =
     tie.close
     (tie.spec
-    no-room-requires
+    refused-requires
     returns
     mul-k
     element-copy-out-k
     free-in-requires
     enum-known-room
     enum-told
-    no-room-requires-2
+    refused-requires-2
     returns-2
     mul-line
     element-set-from-line
-    mul-t11
+    mul-t12
     element-set-from-placed
     returns-3)

@@ -36,14 +36,14 @@ returns-2 c = λ μ f.
     let b = c .before .before .before .before .before .args in
     rw (c .before .before .before .before .after-read .ensures, ne-eqb _ _ (c .before .before .if1 .left), away-held μ (b .vid) (b .cache) (b .a) (b .x) (b .o), ← f .0, c .enum-told .given .1, owner-read μ (b .vid) (b .a) (b .o) (f .1), f .1, add-one (b .a))
 
-only-requires : tie.Need-only-requires
-only-requires c κs = search needs
+value-only-requires : tie.Need-value-only-requires
+value-only-requires c κs = search needs
 
 returns-3 : tie.Need-returns-3
 unfolding loadOwned
 returns-3 c = λ μ f.
     let b = c .before .before .before .before .before .before .before .args in
-    rw (c .only .ensures, ne-eqb _ _ (c .before .before .before .before .if1 .left), away-held μ (b .vid) (b .cache) (b .a) (b .x) (b .o), ← f .0, c .before .before .share .given .1, answering-gives)
+    rw (c .value-only .ensures, ne-eqb _ _ (c .before .before .before .before .if1 .left), away-held μ (b .vid) (b .cache) (b .a) (b .x) (b .o), ← f .0, c .before .before .share .given .1, answering-gives)
 
 pub load-owned-spec : {M : Type 1} → statement M
 load-owned-spec =
@@ -55,5 +55,5 @@ load-owned-spec =
     enum-told
     add-h
     returns-2
-    only-requires
+    value-only-requires
     returns-3)

@@ -38,13 +38,13 @@ returns-2 c = λ k μ f.
     let b = c .before .before .before .before .before .before .args in
     rw (c .place-plain2 .ensures, plain-held μ false k 0 (b .x), ← f .0, ← f .1 .0, c .before .before .before .before .enum-told .given .1, c .before .before .plain .given .1)
 
-only-requires : tie.Need-only-requires
-only-requires c κs = search needs
+value-only-requires : tie.Need-value-only-requires
+value-only-requires c κs = search needs
 
 returns-3 : tie.Need-returns-3
 returns-3 c = λ k μ f.
     let b = c .before .before .before .before .args in
-    rw (c .only .ensures, plain-held μ false k 0 (b .x), ← f .0, c .before .before .own .given .1, answering-gives)
+    rw (c .value-only .ensures, plain-held μ false k 0 (b .x), ← f .0, c .before .before .own .given .1, answering-gives)
 
 pub load-plain-spec : {M : Type 1} → statement M
 load-plain-spec =
@@ -58,5 +58,5 @@ load-plain-spec =
     returns
     place-plain-requires-2
     returns-2
-    only-requires
+    value-only-requires
     returns-3)
