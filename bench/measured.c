@@ -142,7 +142,7 @@ int main(void) {
     static u8 text[TEXT + 3];
     size_t got = read_all(text, sizeof text);
     if (got < 3) return 1;
-    struct text t = {text + 3, text + got};
+    struct text t = {text + 3, text + got, 0};
     u64 caches;
     int count = 0, times = text[1] - '0';
     if (!take_first(&t, &caches)) return 1;

@@ -1,4 +1,4 @@
-// The plain program: the same player as `hmtx`, in plain C, written from document 01. It is what the proved program is measured against.
+// The plain program: the same player as `hmtx`, in plain C, written from document 01 and request 2026-01. It is what the proved program is measured against.
 //
 // The machine is changed in place: whatever refuses a step is looked at before anything changes. The kit has no C headers, so what is used of the C library is declared here.
 typedef unsigned char u8;
@@ -289,51 +289,7 @@ static struct answered play_step(struct machine *k, const struct step *s) {
 
 // ---- trace text
 
-struct text { const u8 *at, *end; };
-
-static int take(struct text *t, const char *key, size_t n) {
-    if ((size_t)(t->end - t->at) < n || memcmp(t->at, key, n)) return 0;
-    t->at += n;
-    return 1;
-}
-#define TAKE(t, key) take(t, key, sizeof key - 1)
-
-static int take_number(struct text *t, u64 *n) {
-    const u8 *from = t->at;
-    for (*n = 0; t->at < t->end && *t->at >= '0' && *t->at <= '9'; t->at++)
-        if (__builtin_mul_overflow(*n, 10, n) || __builtin_add_overflow(*n, *t->at - '0', n)) return 0;
-    return t->at > from && (*from != '0' || t->at == from + 1);
-}
-
-static int take_op(struct text *t, enum op *op) {
-    if (TAKE(t, "op=load")) *op = LOAD;
-    else if (TAKE(t, "op=store")) *op = STORE;
-    else if (TAKE(t, "op=commit")) *op = COMMIT;
-    else if (TAKE(t, "op=abort")) *op = ABORT;
-    else if (TAKE(t, "op=reset")) *op = RESET;
-    else if (TAKE(t, "op=evict")) *op = EVICT;
-    else return 0;
-    return 1;
-}
-
-static int take_first(struct text *t, u64 *caches) {
-    return TAKE(t, "caches=") && take_number(t, caches) && TAKE(t, "\n");
-}
-
-// A step's line; a key that its op doesn't use is 0.
-static int take_step(struct text *t, struct step *s) {
-    if (!take_op(t, &s->op) || !TAKE(t, " cache=") || !take_number(t, &s->cache)) return 0;
-    if (!TAKE(t, " vid=") || !take_number(t, &s->vid)) return 0;
-    if (!TAKE(t, " at=") || !take_number(t, &s->at)) return 0;
-    if (!TAKE(t, " data=") || !take_number(t, &s->data) || !TAKE(t, "\n")) return 0;
-    switch (s->op) {
-    case LOAD: return !s->data;
-    case STORE: return 1;
-    case COMMIT: return !s->cache && !s->at && !s->data;
-    case EVICT: return !s->vid && !s->data;
-    default: return !s->cache && !s->vid && !s->at && !s->data;
-    }
-}
+#include "text.c"
 
 // Reads until the input ends or the room is full.
 static size_t read_all(u8 *to, size_t room) {
@@ -363,35 +319,39 @@ static void put_number(u64 n) {
     put(digits + at, 20 - at);
 }
 
-static void put_line(u64 n, struct answered a, u8 lcvid) {
+static void put_line(u64 n, struct answered a, u8 lcvid, char fault, u64 column) {
     PUT("step="), put_number(n), PUT(" answer=");
     switch (a.answer) {
     case VALUE: PUT("value"); break;
     case DONE: PUT("done"); break;
     case MISSPEC: PUT("misspec"); break;
     case OVERFLOW: PUT("overflow"); break;
-    case REFUSED: PUT("refused-"), put_number(a.data); break;
+    case REFUSED: PUT("refused-"), put_number(a.data), put(&fault, fault != 0); break;
     }
-    PUT(" data="), put_number(a.answer == VALUE ? a.data : 0), PUT(" lcvid="), put_number(lcvid), PUT("\n");
+    PUT(" data="), put_number(a.answer == VALUE ? a.data : 0), PUT(" lcvid="), put_number(lcvid);
+    if (fault) PUT(" col="), put_number(column);
+    PUT("\n");
 }
 
 static void play(struct text t) {
     static struct machine k;
     u64 caches, n = 0;
-    if (t.end - t.at > TEXT || !take_first(&t, &caches)) return put_line(0, refused(12), 0);
-    if (caches < 1 || caches > CACHES) return put_line(0, refused(1), 0);
+    const u8 *line = t.at;
+    if (t.end - t.at > TEXT) return put_line(0, refused(14), 0, 0, 0);
+    if (!take_first(&t, &caches)) return put_line(0, refused(12), 0, t.fault, t.at - line + 1);
+    if (caches < 1 || caches > CACHES) return put_line(0, refused(1), 0, 0, 0);
     k.count = caches;
-    while (t.at < t.end) {
+    while (line = t.at, t.at < t.end) {
         struct step s;
-        if (!take_step(&t, &s)) return put_line(n + 1, refused(12), k.lcvid);
+        if (!take_step(&t, &s)) return put_line(n + 1, refused(12), k.lcvid, t.fault, t.at - line + 1);
         struct answered a = play_step(&k, &s);
-        put_line(++n, a, k.lcvid);
+        put_line(++n, a, k.lcvid, 0, 0);
     }
 }
 
 int main(void) {
     static u8 text[TEXT + 1];
-    play((struct text){text, text + read_all(text, sizeof text)});
+    play((struct text){text, text + read_all(text, sizeof text), 0});
     return write(1, out, end) == (long)end ? 0 : 1;
 }
 #endif

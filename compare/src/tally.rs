@@ -6,7 +6,7 @@ use std::fmt;
 
 /// 2 and 13 never come up in a trace: they need a machine from outside or a
 /// buffer.
-const EXPECTED: [&str; 15] = [
+const EXPECTED: [&str; 20] = [
     "value",
     "done",
     "misspec",
@@ -21,7 +21,12 @@ const EXPECTED: [&str; 15] = [
     "refused-9",
     "refused-10",
     "refused-11",
-    "refused-12",
+    "refused-12a",
+    "refused-12b",
+    "refused-12c",
+    "refused-12d",
+    "refused-12e",
+    "refused-14",
 ];
 
 #[derive(Default)]

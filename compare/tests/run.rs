@@ -31,10 +31,10 @@ fn shortest(said: &str) -> Vec<&str> {
 
 #[test]
 fn agreement_is_told_in_one_line() {
-    let (code, said) = compare(&["--traces", "300", "--damaged", "100"], Some(""));
+    let (code, said) = compare(&["--traces", "300", "--damaged", "200"], Some(""));
     assert_eq!((code, said.lines().count()), (0, 1), "{said}");
     assert!(
-        said.starts_with("same: seed 1, 400 texts (300 traces, 100 damaged; 300 with machines)")
+        said.starts_with("same: seed 1, 500 texts (300 traces, 200 damaged; 300 with machines)")
     );
     assert!(!said.contains("=0 ") && !said.contains("=0\n"), "{said}");
 }
@@ -68,7 +68,7 @@ fn too_few_texts_are_a_failure() {
 fn a_record_stands_in_for_the_program() {
     let path = std::env::temp_dir().join(format!("compare-test-{}", std::process::id()));
     let file = path.to_str().unwrap();
-    let counts = ["--traces", "300", "--damaged", "50", "--machines", "20"];
+    let counts = ["--traces", "300", "--damaged", "200", "--machines", "20"];
     let (code, said) = compare(&[&counts[..], &["--record", file]].concat(), Some(""));
     assert_eq!(code, 0, "{said}");
     let again = compare(&[&counts[..], &["--against", file]].concat(), None);
@@ -78,8 +78,9 @@ fn a_record_stands_in_for_the_program() {
     assert_eq!(other, (2, String::new()));
 }
 
+/// Not every trace begins well; this one does.
 #[test]
 fn a_text_is_shown_alone() {
-    let (code, said) = compare(&["--seed", "9", "--show", "trace", "5"], None);
+    let (code, said) = compare(&["--seed", "9", "--show", "trace", "6"], None);
     assert!(code == 0 && said.starts_with("caches="), "{said}");
 }

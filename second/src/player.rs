@@ -21,7 +21,8 @@ pub struct Turn {
 
 impl<'a> Player<'a> {
     /// "starts from zero memory"; "the first line counts as step 0, printed
-    /// only when refused (1 or 12, lcvid=0)".
+    /// only when refused (1 or 12, lcvid=0)"; "a text that is too long gives
+    /// the one line `step=0 answer=refused-14 data=0 lcvid=0`".
     pub fn open(text: &'a [u8]) -> Result<Self, ReportLine> {
         let step_zero = |answer| ReportLine { number: 0, answer, lcvid: 0 };
         let refused = |reason: Refusal| step_zero(Answer::Refused(reason));

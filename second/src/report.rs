@@ -18,7 +18,12 @@ impl fmt::Display for ReportLine {
     fn fmt(&self, out: &mut fmt::Formatter<'_>) -> fmt::Result {
         let ReportLine { number, answer, lcvid } = self;
         let data = answer.data();
-        write!(out, "step={number} answer={answer} data={data} lcvid={lcvid}")
+        write!(out, "step={number} answer={answer} data={data} lcvid={lcvid}")?;
+        match answer {
+            // "End that report line with ` col=` and the byte column".
+            Answer::Refused(Refusal::Unreadable(broken)) => write!(out, " col={}", broken.column),
+            _ => Ok(()),
+        }
     }
 }
 

@@ -58,47 +58,101 @@ impl fmt::Display for Answer {
             Answer::Done => out.write_str("done"),
             Answer::Misspec => out.write_str("misspec"),
             Answer::Overflow => out.write_str("overflow"),
-            Answer::Refused(reason) => write!(out, "refused-{}", reason.number()),
+            Answer::Refused(reason) => write!(out, "refused-{reason}"),
         }
     }
 }
 
-/// "Numbers given on refusal"; the discriminants are the table's numbers.
+/// "Numbers given on refusal".
 #[derive(Clone, Copy, Debug, PartialEq, Eq)]
-#[repr(u8)]
 pub enum Refusal {
     /// "making a machine: caches not 1 to 4"
-    CacheCount = 1,
+    CacheCount,
     /// "machine not sound"
-    Unsound = 2,
+    Unsound,
     /// "load, store, evict: cache not below the count"
-    NoSuchCache = 3,
+    NoSuchCache,
     /// "load, store: address above 63"
-    NoSuchAddress = 4,
+    NoSuchAddress,
     /// "evict: slot above 15"
-    NoSuchSlot = 5,
+    NoSuchSlot,
     /// "load, store, commit: VID above 63"
-    NoSuchVid = 6,
+    NoSuchVid,
     /// "load, store: VID from 1 to LCVID"
-    VidIsCommitted = 7,
+    VidIsCommitted,
     /// "commit: VID is not LCVID + 1"
-    CommitOutOfTurn = 8,
+    CommitOutOfTurn,
     /// "reset: some S-M or S-E has h above LCVID"
-    FlightUnsettled = 9,
+    FlightUnsettled,
     /// "evict: slot is I"
-    SlotIsEmpty = 10,
+    SlotIsEmpty,
     /// "load, store: fewer free slots than lines to place, in a step that
     /// doesn't misspeculate"
-    NoRoom = 11,
-    /// "trace text: line unreadable"
-    Unreadable = 12,
+    NoRoom,
+    /// "trace text: line unreadable"; "12 splits into 12a to 12e"
+    Unreadable(Break),
     /// "report line doesn't fit from the given place, or the place is past
     /// the buffer's end"
-    ReportDoesNotFit = 13,
+    ReportDoesNotFit,
+    /// "a text over 65,536 bytes becomes 14"
+    TextTooLong,
 }
 
-impl Refusal {
-    pub fn number(self) -> u8 {
-        self as u8
+/// The number as the table has it, with the letter of a 12.
+impl fmt::Display for Refusal {
+    fn fmt(&self, out: &mut fmt::Formatter<'_>) -> fmt::Result {
+        out.write_str(match self {
+            Refusal::CacheCount => "1",
+            Refusal::Unsound => "2",
+            Refusal::NoSuchCache => "3",
+            Refusal::NoSuchAddress => "4",
+            Refusal::NoSuchSlot => "5",
+            Refusal::NoSuchVid => "6",
+            Refusal::VidIsCommitted => "7",
+            Refusal::CommitOutOfTurn => "8",
+            Refusal::FlightUnsettled => "9",
+            Refusal::SlotIsEmpty => "10",
+            Refusal::NoRoom => "11",
+            Refusal::Unreadable(broken) => broken.kind.number(),
+            Refusal::ReportDoesNotFit => "13",
+            Refusal::TextTooLong => "14",
+        })
+    }
+}
+
+/// Where an unreadable line breaks, and how.
+#[derive(Clone, Copy, Debug, PartialEq, Eq)]
+pub struct Break {
+    pub kind: Kind,
+    /// "the byte column, from 1", "within the line that breaks".
+    pub column: usize,
+}
+
+/// The kinds of break "in that list's order".
+#[derive(Clone, Copy, Debug, PartialEq, Eq)]
+pub enum Kind {
+    /// "wrong key (any fixed text or op name broken off)"
+    WrongKey,
+    /// "bad number (no digit where one must stand, or a digit after a leading
+    /// zero)"
+    BadNumber,
+    /// "number too large"
+    TooLarge,
+    /// "key not zero where it must be"
+    NotZero,
+    /// "missing line end (another byte than a digit or LF after a digit of the
+    /// line's last number, or the text is empty or ends inside a line ...)"
+    NoLineEnd,
+}
+
+impl Kind {
+    fn number(self) -> &'static str {
+        match self {
+            Kind::WrongKey => "12a",
+            Kind::BadNumber => "12b",
+            Kind::TooLarge => "12c",
+            Kind::NotZero => "12d",
+            Kind::NoLineEnd => "12e",
+        }
     }
 }

@@ -39,7 +39,8 @@ fn one_text() {
 
 #[test]
 fn many_texts() {
-    let refused: &[u8] = b"step=0 answer=refused-12 data=0 lcvid=0\n";
+    let empty: &[u8] = b"step=0 answer=refused-12e data=0 lcvid=0 col=1\n";
+    let too_long: &[u8] = b"step=0 answer=refused-14 data=0 lcvid=0\n";
     let texts = [TEXT, b"", b"caches=1\n", TEXT, &[b'x'; 70_000]].map(frame).concat();
     for (options, report) in [
         (&["--batch"][..], REPORT),
@@ -48,7 +49,7 @@ fn many_texts() {
     ] {
         let ran = second(options, &texts);
         assert!(ran.status.success());
-        assert_eq!(ran.stdout, [report, refused, b"", report, refused].map(frame).concat());
+        assert_eq!(ran.stdout, [report, empty, b"", report, too_long].map(frame).concat());
     }
     assert!(second(&["--batch"], b"").status.success());
 }

@@ -3,14 +3,10 @@
 
 mod common;
 
-use common::random::{trace, Random};
+use common::random::{damaged, setting, trace, Random};
 use second::trace::MOST_BYTES;
 use second::{check, play, play_showing_machine};
 use std::collections::BTreeMap;
-
-fn setting(name: &str, otherwise: u64) -> u64 {
-    std::env::var(name).map_or(otherwise, |text| text.parse().expect("a number"))
-}
 
 fn count_answers(report: &str, counts: &mut BTreeMap<String, u64>) -> u64 {
     for line in report.lines() {
@@ -49,28 +45,22 @@ fn random_traces_pass_the_checker() {
     }
 }
 
-/// A trace with a few bytes changed, left out or put in.
-fn damaged(random: &mut Random) -> Vec<u8> {
-    let mut text = trace(random, 12).into_bytes();
-    for _ in 0..1 + random.below(3) {
-        let place = random.below(text.len() as u64) as usize;
-        let likely = b"\n\r 0123456789=abcdelmoprstv\x00\xff";
-        let byte = likely[random.below(likely.len() as u64) as usize];
-        match random.below(3) {
-            0 => text[place] = byte,
-            1 => text.insert(place, byte),
-            _ => drop(text.remove(place)),
-        }
-    }
-    text
-}
-
+/// A column ends the line of a 12 and no other.
 fn is_report_line(number: usize, line: &str) -> bool {
     let fields: Vec<&str> = line.split(' ').collect();
-    let [step, answer, data, lcvid] = fields[..] else {
+    let [step, answer, data, lcvid, column @ ..] = &fields[..] else {
         return false;
     };
-    step == format!("step={number}")
+    let is_column = |word: &str| {
+        word.strip_prefix("col=").is_some_and(|col| col.parse::<usize>().is_ok_and(|col| col > 0))
+    };
+    let column_fits = match column {
+        [] => !answer.starts_with("answer=refused-12"),
+        [word] => answer.starts_with("answer=refused-12") && is_column(word),
+        _ => false,
+    };
+    column_fits
+        && *step == format!("step={number}")
         && answer.starts_with("answer=")
         && data.strip_prefix("data=").is_some_and(|word| word.parse::<u64>().is_ok())
         && lcvid.strip_prefix("lcvid=").is_some_and(|vid| vid.parse::<u8>().is_ok())
@@ -80,13 +70,13 @@ fn is_report_line(number: usize, line: &str) -> bool {
 fn damaged_texts_get_whole_reports() {
     let mut random = Random(setting("SECOND_SEED", 2));
     for _ in 0..5_000 {
-        let text = damaged(&mut random);
+        let text = damaged(&mut random, 12);
         let report = String::from_utf8(check(&text).unwrap()).unwrap();
         assert_eq!(report.as_bytes(), play(&text));
         let first = usize::from(!report.starts_with("step=0 "));
         for (place, line) in report.lines().enumerate() {
             assert!(is_report_line(first + place, line), "{line}");
-            let stops = line.contains("answer=refused-12 ") || line.starts_with("step=0 ");
+            let stops = line.contains("answer=refused-12") || line.starts_with("step=0 ");
             assert!(!stops || place + 1 == report.lines().count(), "played on: {report}");
         }
     }
@@ -96,7 +86,7 @@ fn damaged_texts_get_whole_reports() {
 fn the_shown_report_is_the_plain_one_with_the_machine_behind() {
     let mut random = Random(setting("SECOND_SEED", 3));
     for _ in 0..200 {
-        let text = damaged(&mut random);
+        let text = damaged(&mut random, 12);
         let shown = String::from_utf8(play_showing_machine(&text)).unwrap();
         let stripped: String =
             shown.lines().map(|line| format!("{}\n", line.split(" |").next().unwrap())).collect();

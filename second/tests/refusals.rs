@@ -6,7 +6,7 @@ mod common;
 use common::{last, machine, report, trace};
 use second::contents::{Contents, Line, State, SLOTS, WORDS};
 use second::report::ReportLine;
-use second::step::{Answer, Refusal};
+use second::step::{Answer, Break, Kind, Refusal};
 use second::Machine;
 
 const HUGE: &str = "18446744073709551615";
@@ -115,8 +115,20 @@ fn refusal_12_stops_the_run_and_keeps_lcvid() {
     let text = format!("{}op=load\n{}", trace(1, "C1, C5"), &trace(1, "C2")[9..]);
     let expected = "step=1 answer=done data=0 lcvid=1\n\
                     step=2 answer=refused-8 data=0 lcvid=1\n\
-                    step=3 answer=refused-12 data=0 lcvid=1\n";
+                    step=3 answer=refused-12a data=0 lcvid=1 col=8\n";
     assert_eq!(report(&text), expected);
+}
+
+#[test]
+fn refusal_12_has_a_letter_for_each_kind() {
+    let kinds = [Kind::WrongKey, Kind::BadNumber, Kind::TooLarge, Kind::NotZero, Kind::NoLineEnd];
+    for (kind, letter) in kinds.into_iter().zip('a'..='e') {
+        let answer = Answer::Refused(Refusal::Unreadable(Break { kind, column: 7 }));
+        assert_eq!(answer.to_string(), format!("refused-12{letter}"));
+        let line = ReportLine { number: 3, answer, lcvid: 2 };
+        let expected = format!("step=3 answer=refused-12{letter} data=0 lcvid=2 col=7");
+        assert_eq!(line.to_string(), expected);
+    }
 }
 
 #[test]
@@ -133,5 +145,28 @@ fn refusal_13_leaves_the_buffer() {
         let before = buffer;
         assert_eq!(line.write_at(&mut buffer, place), Err(Refusal::ReportDoesNotFit));
         assert_eq!(buffer, before);
+    }
+}
+
+/// The column belongs to the line, so it needs its room too.
+#[test]
+fn refusal_13_counts_the_column_in() {
+    let broken = Break { kind: Kind::BadNumber, column: 21 };
+    let answer = Answer::Refused(Refusal::Unreadable(broken));
+    let line = ReportLine { number: 1, answer, lcvid: 0 };
+    let written = b"step=1 answer=refused-12b data=0 lcvid=0 col=21\n";
+    let mut buffer = [b'.'; 49];
+    assert_eq!(line.write_at(&mut buffer, 2), Err(Refusal::ReportDoesNotFit));
+    assert_eq!(buffer, [b'.'; 49]);
+    assert_eq!(line.write_at(&mut buffer, 1), Ok(49));
+    assert_eq!(&buffer[1..], written);
+}
+
+#[test]
+fn refusal_14_is_one_line_whatever_the_text_holds() {
+    let unreadable = "x".repeat(65_537);
+    let five_caches = trace(5, &"A,".repeat(2_000));
+    for text in [unreadable, five_caches] {
+        assert_eq!(report(&text), "step=0 answer=refused-14 data=0 lcvid=0\n");
     }
 }

@@ -1,37 +1,18 @@
 //! Damaged texts: a good trace with a few things wrong in it.
 
-use super::{long, trace};
+use super::{breaks, long, trace};
 use crate::random::Random;
+use second::trace::MOST_BYTES;
 
 /// Bytes that come close to being right, and some that never are.
-const BYTES: &[u8] = b"\n\r\t 0123456789=+-abcdeilmoprstvxL\x00\x7f\x80\xc3\xff";
+pub const BYTES: &[u8] = b"\n\r\t 0123456789=+-abcdeilmoprstvxL\x00\x7f\x80\xc3\xff";
 
-/// Numbers around the largest, and such that come out small if they are
-/// narrowed or wrap around.
-const EDGES: &[&str] = &[
-    "18446744073709551614",
-    "18446744073709551615",
-    "18446744073709551616",
-    "18446744073709551617",
-    "18446744073709551620",
-    "18446744073709551625",
-    "28446744073709551615",
-    "36893488147419103232",
-    "99999999999999999999",
-    "184467440737095516150",
-    "340282366920938463463374607431768211457",
-    "9223372036854775808",
-    "4294967296",
-    "65536",
-    "256",
-    "257",
-    "64",
-    "16",
-];
+/// So far past the limit that a byte more or less makes no difference.
+const FAR_TOO_LONG: usize = MOST_BYTES + 1_000;
 
 pub fn any(random: &mut Random) -> Vec<u8> {
     match random.below(40) {
-        0 => return long::around_limit(random),
+        0 => return around_limit(random),
         1 => return scrap(random),
         _ => {}
     }
@@ -42,6 +23,17 @@ pub fn any(random: &mut Random) -> Vec<u8> {
             break;
         }
         damage(random, &mut text);
+    }
+    text
+}
+
+/// A broken first line in a text that is too long shows which of the two is
+/// told. Those close to the limit keep their length.
+fn around_limit(random: &mut Random) -> Vec<u8> {
+    let mut text = long::around_limit(random);
+    if text.len() > FAR_TOO_LONG && random.one_in(2) {
+        let place = random.place(b"caches=".len());
+        byte_at(random, &mut text, place);
     }
     text
 }
@@ -67,16 +59,21 @@ fn scrap(random: &mut Random) -> Vec<u8> {
 
 fn damage(random: &mut Random, text: &mut Vec<u8>) {
     match random.below(12) {
-        0..=3 => damage_byte(random, text),
-        4 | 5 => damage_lines(random, text),
-        6..=9 => damage_number(random, text),
-        10 => damage_chunk(random, text),
-        _ => damage_fields(random, text),
+        0 | 1 => damage_byte(random, text),
+        2 => damage_lines(random, text),
+        3 => damage_chunk(random, text),
+        4 => damage_fields(random, text),
+        _ => breaks::one(random, text),
     }
 }
 
 fn damage_byte(random: &mut Random, text: &mut Vec<u8>) {
     let place = random.place(text.len());
+    byte_at(random, text, place);
+}
+
+/// Changes, drops or doubles a byte, or puts one before it.
+pub fn byte_at(random: &mut Random, text: &mut Vec<u8>, place: usize) {
     match random.below(5) {
         0 => text[place] = random.pick(BYTES),
         1 => text[place] ^= 1 << random.below(8),
@@ -101,9 +98,13 @@ fn damage_chunk(random: &mut Random, text: &mut Vec<u8>) {
     }
 }
 
+/// Each with its LF, which the last one may lack.
+pub fn lines_of(text: &[u8]) -> Vec<Vec<u8>> {
+    text.split_inclusive(|byte| *byte == b'\n').map(<[u8]>::to_vec).collect()
+}
+
 fn damage_lines(random: &mut Random, text: &mut Vec<u8>) {
-    let mut lines: Vec<Vec<u8>> =
-        text.split_inclusive(|byte| *byte == b'\n').map(<[u8]>::to_vec).collect();
+    let mut lines = lines_of(text);
     let (one, other) = (random.place(lines.len()), random.place(lines.len()));
     match random.below(6) {
         0 => lines.swap(one, other),
@@ -138,38 +139,4 @@ fn damage_fields(random: &mut Random, text: &mut Vec<u8>) {
         2 => text.insert(space, b' '),
         _ => text.insert(end, b' '),
     }
-}
-
-/// One number, its digits replaced; a key that the op doesn't use becomes
-/// other than 0 in this way as well.
-fn damage_number(random: &mut Random, text: &mut Vec<u8>) {
-    let numbers = numbers(text);
-    if numbers.is_empty() {
-        return damage_byte(random, text);
-    }
-    let (from, to) = random.pick(&numbers);
-    let digits = String::from_utf8_lossy(&text[from..to]).into_owned();
-    let instead = match random.below(8) {
-        0 => format!("0{digits}"),
-        1 => format!("00{digits}"),
-        2 => random.pick(&["", "+0", "-0", "-1", "0x1", "1.0", "1_0"]).to_string(),
-        3 | 4 => random.pick(&["1", "2", "3", "4", "5", "15", "63"]).to_string(),
-        _ => random.pick(EDGES).to_string(),
-    };
-    drop(text.splice(from..to, instead.into_bytes()));
-}
-
-/// Where digits begin and end.
-pub fn numbers(text: &[u8]) -> Vec<(usize, usize)> {
-    let is_digit = |place: usize| text.get(place).is_some_and(u8::is_ascii_digit);
-    let mut found = Vec::new();
-    let mut place = 0;
-    while place < text.len() {
-        let end = (place..).find(|end| !is_digit(*end)).unwrap_or(place);
-        if end > place {
-            found.push((place, end));
-        }
-        place = end + 1;
-    }
-    found
 }

@@ -1,6 +1,7 @@
 //! Seeded texts: traces, and traces that were damaged.
 
 mod blind;
+mod breaks;
 mod damage;
 mod lean;
 mod long;
@@ -8,7 +9,7 @@ mod steer;
 mod trace;
 mod wrong;
 
-pub use damage::numbers;
+pub use breaks::numbers;
 
 use crate::random::{seed_of, Random};
 use std::fmt;

@@ -2,7 +2,7 @@
 //! so that the next step can be drawn near what the machine holds.
 
 use super::lean::Lean;
-use super::{blind, long, steer};
+use super::{blind, breaks, long, steer};
 use crate::random::Random;
 use second::contents::{Contents, SLOTS, WORDS};
 use second::step::Step;
@@ -38,12 +38,13 @@ impl Trace {
 }
 
 /// A trace as the comparison plays it. A few begin with a refused first line
-/// or end in an unreadable one, so that traces alone show every refusal.
+/// or have an unreadable one, so that traces alone show every refusal but that
+/// of a text that is too long.
 pub fn any(random: &mut Random) -> Vec<u8> {
     match random.below(120) {
         0 | 1 => refused_at_once(random),
-        2 => unreadable_at_last(random),
-        3 => long::up_to_limit(random),
+        2..=6 => unreadable(random),
+        7 => long::up_to_limit(random),
         _ => good(random),
     }
 }
@@ -102,14 +103,8 @@ fn refused_at_once(random: &mut Random) -> Vec<u8> {
     text
 }
 
-fn unreadable_at_last(random: &mut Random) -> Vec<u8> {
+fn unreadable(random: &mut Random) -> Vec<u8> {
     let mut text = good(random);
-    text.extend_from_slice(random.pick(&[
-        b"\n".as_slice(),
-        b"caches=2\n",
-        b"op=commit cache=0 vid=1 at=0\n",
-        b"op=flush cache=0 vid=0 at=0 data=0\n",
-        b"op=abort cache=0 vid=0 at=0 data=0",
-    ]));
+    breaks::one(random, &mut text);
     text
 }

@@ -25,7 +25,7 @@ fn rules_alone(fresh: Answered, text: &[u8], from: usize, times: u8) -> u64 {
                 count += 1;
                 left -= 1;
             }
-            Read::Unreadable(_) => left = 0,
+            Read::Unreadable(_, _) => left = 0,
             Read::End => left = 0,
         }
     }

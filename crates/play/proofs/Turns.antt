@@ -7,6 +7,7 @@ use native.Mathlib.Nat.{not-suc-le-zero}
 use native.Mathlib.Omega.{arith}
 use borrow.Author.Tests.{le-leb}
 use lib.ListN.{length}
+use Rattle.rules.specs.declared.Fault.{Fault}
 use Rattle.rules.specs.declared.Machine.{Machine}
 use Rattle.rules.specs.declared.Op.{Op}
 use Rattle.rules.specs.declared.Reason.the-variants.{Unreadable}
@@ -34,8 +35,8 @@ module _ (s : List ℕ) (at n : ℕ) (μ : Machine) (k : ℕ) where
   abbrev after : Answered → ℕ → List (List ℕ)
   after r next = stepLine n r ∷ linesFrom (k - 1) s next (n + 1) (r .machine)
 
-  abbrev broken : List ℕ
-  broken = lineText n (Refused Unreadable) (μ .lcvid)
+  abbrev broken : Fault → ℕ → List ℕ
+  broken f column = lineText n (Refused (Unreadable f column)) (μ .lcvid)
 
   pub no-turn : k ≤ 0 → linesFrom k s at n μ ≡ []
   no-turn h = go k h
@@ -56,7 +57,7 @@ module _ (s : List ℕ) (at n : ℕ) (μ : Machine) (k : ℕ) where
     pub turn-ends : readAt s at ≡ read.End → linesFrom k s at n μ ≡ []
     turn-ends e = turn ∙ rw e
 
-    pub turn-breaks : {begins : ℕ} → readAt s at ≡ read.Unreadable begins → linesFrom k s at n μ ≡ broken ∷ []
+    pub turn-breaks : {f : Fault} {column : ℕ} → readAt s at ≡ read.Unreadable f column → linesFrom k s at n μ ≡ broken f column ∷ []
     turn-breaks e = turn ∙ rw e
 
     pub turn-steps : {op : Op} {next : ℕ} → readAt s at ≡ read.Step op next → {r : Answered} → r ≡ stepOf μ op → linesFrom k s at n μ ≡ after r next
@@ -73,11 +74,11 @@ module _ (s : List ℕ) where
   enough-after : (k j at n : ℕ) (μ : Machine) → length s ≤ at + suc k
       → ((at n : ℕ) (μ : Machine) → length s ≤ at + k → linesFrom (k + j) s at n μ ≡ linesFrom k s at n μ)
       → (t : Read) → readAt s at ≡ t
-      → onRead t (λ op next. stepLine n (stepOf μ op) ∷ linesFrom (k + j) s next (n + 1) (stepOf μ op .machine)) (lineText n (Refused Unreadable) (μ .lcvid))
-      ≡ onRead t (λ op next. stepLine n (stepOf μ op) ∷ linesFrom k s next (n + 1) (stepOf μ op .machine)) (lineText n (Refused Unreadable) (μ .lcvid))
+      → onRead t (λ op next. stepLine n (stepOf μ op) ∷ linesFrom (k + j) s next (n + 1) (stepOf μ op .machine)) (broken s at n μ k)
+      ≡ onRead t (λ op next. stepLine n (stepOf μ op) ∷ linesFrom k s next (n + 1) (stepOf μ op .machine)) (broken s at n μ k)
   enough-after k j at n μ h rest (read.Step op next) e =
       ap (λ (more : List (List ℕ)). stepLine n (stepOf μ op) ∷ more) (rest next (n + 1) (stepOf μ op .machine) (omega (arith, h, step-long s at op next e .0)))
-  enough-after k j at n μ h rest (read.Unreadable begins) e = refl
+  enough-after k j at n μ h rest (read.Unreadable f column) e = refl
   enough-after k j at n μ h rest read.End e = refl
 
   -- as many turns as bytes are left: more change nothing

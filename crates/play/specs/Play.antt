@@ -5,10 +5,11 @@ use mathlib.Core.List.{List, [], _∷_}
 use Prim.Native.Nat.{ℕ, zero, suc, _+_}
 use lib.Dec.{ltb}
 use lib.ListN.{length, replicate}
+use Rattle.rules.specs.declared.Fault.{Fault}
 use Rattle.rules.specs.declared.Machine.{Machine}
 use Rattle.rules.specs.declared.Op.{Op}
 use Rattle.rules.specs.declared.Reason.{Reason}
-use Rattle.rules.specs.declared.Reason.the-variants.{Unreadable}
+use Rattle.rules.specs.declared.Reason.the-variants.{Unreadable, TextTooLong}
 use Rattle.rules.specs.declared.Answer.{Answer}
 use Rattle.rules.specs.declared.Answer.the-variants.{Value, Done, Misspec, Overflow, Refused}
 use Rattle.rules.specs.declared.Answered.{Answered}
@@ -30,10 +31,10 @@ longest = 65536
 abbrev pub stepLine : ℕ → Answered → List ℕ
 stepLine n r = lineText n (r .answer) (r .machine .lcvid)
 
--- what follows a step that was read; a line that is unreadable, which is the last; or the end
-abbrev pub onRead : Read → (Op → ℕ → List (List ℕ)) → List ℕ → List (List ℕ)
+-- what follows a step that was read; the line for one that is unreadable, which is the last; or the end
+abbrev pub onRead : Read → (Op → ℕ → List (List ℕ)) → (Fault → ℕ → List ℕ) → List (List ℕ)
 onRead (read.Step op next) rest broken = rest op next
-onRead (read.Unreadable begins) rest broken = broken ∷ []
+onRead (read.Unreadable f column) rest broken = broken f column ∷ []
 onRead read.End rest broken = []
 
 -- The lines of the steps from a place of the text on, numbered from n. "A refused step doesn't stop the run; 12 ... prints its line and stops."
@@ -43,9 +44,9 @@ linesFrom zero s at n μ = []
 linesFrom (suc k) s at n μ =
     onRead (readAt s at)
     (λ op next. stepLine n (stepOf μ op) ∷ linesFrom k s next (n + 1) (stepOf μ op .machine))
-    (lineText n (Refused Unreadable) (μ .lcvid))
+    (λ f column. lineText n (Refused (Unreadable f column)) (μ .lcvid))
 
--- "the first line counts as step 0, printed only when refused (1 or 12, lcvid=0)"
+-- "the first line counts as step 0, printed only when refused (1 or 12, lcvid=0)", or 14
 abbrev pub refusedFirst : Reason → List (List ℕ)
 refusedFirst r = lineText 0 (Refused r) 0 ∷ []
 
@@ -63,8 +64,8 @@ made n = makeOf n (replicate 64 noData)
 
 abbrev pub onFirst : List ℕ → First → List (List ℕ)
 onFirst s (Caches n next) = onMade (made n .answer) (linesFrom (length s) s next 1 (made n .machine))
-onFirst s Broken = refusedFirst Unreadable
+onFirst s (Broken f column) = refusedFirst (Unreadable f column)
 
--- "the program reports a longer text as refusal 12 at step 0 without playing it"
+-- "the program reports a longer text ... at step 0 without playing it"; 2026-01: it "becomes 14, without `col=`"
 unfoldable pub reportOf : List ℕ → List (List ℕ)
-reportOf s = cond (ltb longest (length s)) (refusedFirst Unreadable) (onFirst s (firstOf s))
+reportOf s = cond (ltb longest (length s)) (refusedFirst TextTooLong) (onFirst s (firstOf s))

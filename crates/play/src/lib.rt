@@ -1,19 +1,23 @@
 // A whole trace text to a whole report, in a buffer that is lent.
 //
-// `play` is proved to write exactly the report that document 01 describes, for every text whatever its bytes; it has no `requires`, and the crate assumes nothing. The definition
+// `play` is proved to write exactly the report that document 01 and request 2026-01 describe, for every text whatever its bytes; it has no `requires`, and the crate assumes nothing. The definition
 // plays the public step, which tests the house rules first; the code plays the rule without that test, since every machine that it comes to is sound.
 use report::Wrote;
 use rules::Answer;
 use rules::Answered;
+use rules::Fault;
 use rules::Reason;
 use trace::First;
 use trace::Read;
 ghost use mathlib.Core.Path.{_≡_};
+ghost use Prim.Native.Nat.{_≤_};
 ghost use lib.ListN.{length};
 ghost use Rattle.rules.specs.House.{House, Sized};
 ghost use Rattle.rules.specs.declared.Answer.the-variants.{Refused};
+ghost use Rattle.rules.specs.declared.Reason.the-variants.{Unreadable};
+ghost use Rattle.trace.specs.declared.First.the-variants.{Caches};
 ghost use Rattle.report.specs.Report.{lineText};
-ghost use Rattle.play.specs.Play.{linesFrom, reportOf};
+ghost use Rattle.play.specs.Play.{onFirst, linesFrom, reportOf};
 ghost use Rattle.play.specs.Buffer.{Plays, Ends};
 
 // The place after the report, and whether it is whole: the first line that doesn't fit (13) ends it.
@@ -28,6 +32,14 @@ fn wide(x: u16) -> u64
     ensures { λ r. ⌜ r ≡ x ⌝ }
 {
     x as u64
+}
+
+// What is wrong with a line, and the column. No column is above 111, so it has room in 32 bits.
+fn unreadable(fault: Fault, column: usize) -> Reason
+    requires { ⌜ column ≤ 111 ⌝ }
+    ensures { λ r. ⌜ r ≡ Unreadable fault column ⌝ }
+{
+    Reason::Unreadable(fault, column as u32)
 }
 
 // The report's last line: a refusal after which nothing is played.
@@ -69,9 +81,9 @@ fn play_steps(start: Answered, text: &[u8], from: usize, out: &mut [u8]) -> Play
                 n += 1;
                 left -= 1;
             }
-            Read::Unreadable(_) => {
+            Read::Unreadable(fault, column) => {
                 let lcvid = did.machine.lcvid;
-                return last_line(out, end, n, Reason::Unreadable, lcvid);
+                return last_line(out, end, n, unreadable(fault, column), lcvid);
             }
             Read::End => return Played { end, whole: true },
         }
@@ -79,21 +91,29 @@ fn play_steps(start: Answered, text: &[u8], from: usize, out: &mut [u8]) -> Play
     Played { end, whole: true }
 }
 
-// The whole report, from the start of the buffer on.
-pub fn play(text: &[u8], out: &mut [u8]) -> Played
-    ensures { λ r. ⌜ Plays (reportOf (now (text .entry))) (now (out .entry)) r (now (out .exit)) ⌝ }
+// The report where the first line is read: a machine with so many caches, and the steps behind the line.
+fn play_caches(count: u64, text: &[u8], from: usize, out: &mut [u8]) -> Played
+    ensures { λ r. ⌜ Plays (onFirst (now (text .entry)) (Caches count from)) (now (out .entry)) r (now (out .exit)) ⌝ }
 {
-    if 65536 < text.len() {
-        return last_line(out, 0, 0, Reason::Unreadable, 0);
-    }
-    let First::Caches(count, next) = trace::first_line(text) else {
-        return last_line(out, 0, 0, Reason::Unreadable, 0);
-    };
     let zero = [0u64; 64];
     let made = step::make(count as usize, zero);
     let answer = made.answer;
     if let Answer::Refused(reason) = answer {
         return last_line(out, 0, 0, reason, 0);
     }
-    play_steps(made, text, next, out)
+    play_steps(made, text, from, out)
+}
+
+// The whole report, from the start of the buffer on.
+pub fn play(text: &[u8], out: &mut [u8]) -> Played
+    ensures { λ r. ⌜ Plays (reportOf (now (text .entry))) (now (out .entry)) r (now (out .exit)) ⌝ }
+{
+    if 65536 < text.len() {
+        return last_line(out, 0, 0, Reason::TextTooLong, 0);
+    }
+    let first = trace::first_line(text);
+    match first {
+        First::Caches(count, next) => play_caches(count, text, next, out),
+        First::Broken(fault, column) => last_line(out, 0, 0, unreadable(fault, column), 0),
+    }
 }

@@ -1,6 +1,6 @@
 -- Bytes stored one after the other, and one piece put after another.
 -- Assumes nothing.
-use mathlib.Core.Path.{_≡_, ap, sym, _∙_}
+use mathlib.Core.Path.{_≡_, refl, ap, sym, _∙_}
 use mathlib.Core.List.{List, [], _∷_, _++_}
 use Prim.Native.Nat.{ℕ, suc, _+_, _≤_, _<_}
 use native.Mathlib.Numerals.{add-one}
@@ -23,6 +23,13 @@ sets-turn l out at i s h e =
 sets-append : (l : List ℕ) (i : ℕ) (vs ws : List ℕ) → sets (sets l i vs) (i + length vs) ws ≡ sets l i (vs ++ ws)
 sets-append l i [] ws = rw add-zero
 sets-append l i (u ∷ vs) ws = ap (λ (k : ℕ). sets (sets (set l i u) (suc i) vs) k ws) (add-suc i (length vs) ∙ sym (suc-add i (length vs))) ∙ sets-append (set l i u) (suc i) vs ws
+
+-- nothing; and one byte
+pub put-none : (l : List ℕ) (at k : ℕ) → Put l at [] k at l
+put-none l at k = record { next = omega arith; within = omega arith; holds = refl }
+
+pub put-one : (l : List ℕ) (at b : ℕ) → Put l at (b ∷ []) 1 (at + 1) (set l at b)
+put-one l at b = record { next = omega arith; within = omega arith; holds = refl }
 
 -- the piece ws behind the piece bs
 pub put-then : (l : List ℕ) (at : ℕ) (bs ws : List ℕ) (j k p r : ℕ) (t u : List ℕ) → Put l at bs j p t → Put t p ws k r u → Put l at (bs ++ ws) (j + k) r u

@@ -16,6 +16,7 @@ use Rattle.rules.specs.declared.Reason.{Reason}
 use Rattle.rules.specs.declared.Answer.the-variants.{Value, Refused}
 use Rattle.rules.specs.declared.Answered.{Answered}
 use Rattle.rules.specs.declared.Reason.the-variants.{NoRoom}
+use Rattle.rules.specs.Answer.{numberOf}
 use Rattle.rules.specs.Data.{Data, noData, read, lineOf, wordOf}
 use Rattle.rules.specs.States.{spec}
 use Rattle.rules.specs.Line.{isOwner}
@@ -35,7 +36,7 @@ use Rattle.rules.proofs.machines.Sound.{SoundMachine}
 use Rattle.rules.proofs.machines.View.{owner-one}
 use Rattle.rules.proofs.machines.StepLaw.{lastOf, wordView, wordMarked, LawOf, load-outcome, step-ok}
 use Rattle.rules.proofs.machines.LoadLaw.{LoadOutcome, returns, no-room}
-use Rattle.rules.proofs.machines.Admitted.{Admitted, passes-3, passes-4, passes-6, passes-7, admitted, step-unchanged}
+use Rattle.rules.proofs.machines.Admitted.{Admitted, passes-3, passes-4, passes-6, passes-7, admitted, step-refusing}
 use Rattle.rules.proofs.machines.Fresh.{fresh-sound, fresh-view}
 use Rattle.rules.proofs.machines.House.{house-sound, sound-house, sound-sized, house-decides}
 
@@ -90,9 +91,13 @@ load-returns μ z h c v at A = rw (load-is-rule μ z h c v at A) (go _ (load-out
     go r (returns d ν e K m) = inl (ap (λ (d : Data). Value (read d (wordOf at))) e)
     go r no-room = inr refl
 
--- a refused step hands the machine back unchanged, whatever the machine
+-- a refused step has a number up to 11, whatever the machine: the later ones are of texts, lines and buffers
+pub refused-number : (μ : Machine) (op : Op) (k : Reason) → stepOf μ op .answer ≡ Refused k → numberOf k ≤ 11
+refused-number μ op = step-refusing μ op .number
+
+-- and hands the machine back unchanged
 pub refused-unchanged : (μ : Machine) (op : Op) (k : Reason) → stepOf μ op .answer ≡ Refused k → stepOf μ op .machine ≡ μ
-refused-unchanged μ op = step-unchanged μ op .same
+refused-unchanged μ op = step-refusing μ op .same
 
 -- for every address and every number from LCVID up there is exactly one owner where a speculative line lives
 pub owner-exactly-one : (μ : Machine) → Sized μ → House μ → (x a : ℕ) → μ .lcvid ≤ a → (p : Pos) → Lives μ x spec p → One (λ o. isOwner x a (at μ o) ≡ true)

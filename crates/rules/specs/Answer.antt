@@ -1,13 +1,15 @@
--- Answers: the number of a refusal; the text, the number behind it and the value of an answer. Every promise uses these.
+-- Answers: the number of a refusal and the letter of a fault; the text, the number behind it and the value of an answer. Every promise uses these.
 -- Assumes nothing.
 use mathlib.Core.List.{List, [], _∷_}
 use Prim.Native.Nat.{ℕ}
+use Rattle.rules.specs.declared.Fault.{Fault}
+use Rattle.rules.specs.declared.Fault.the-variants.{WrongKey, BadNumber, NumberTooLarge, KeyNotZero, NoLineEnd}
 use Rattle.rules.specs.declared.Reason.{Reason}
-use Rattle.rules.specs.declared.Reason.the-variants.{CacheCount, NotSound, NoSuchCache, AddressTooLarge, SlotTooLarge, VidTooLarge, VidPast, VidNotNext, NotSettled, SlotEmpty, NoRoom, Unreadable, NoFit}
+use Rattle.rules.specs.declared.Reason.the-variants.{CacheCount, NotSound, NoSuchCache, AddressTooLarge, SlotTooLarge, VidTooLarge, VidPast, VidNotNext, NotSettled, SlotEmpty, NoRoom, Unreadable, NoFit, TextTooLong}
 use Rattle.rules.specs.declared.Answer.{Answer}
 use Rattle.rules.specs.declared.Answer.the-variants.{Value, Done, Misspec, Overflow, Refused}
 
--- "Numbers given on refusal"
+-- "Numbers given on refusal"; 2026-01: "a text over 65,536 bytes becomes 14"
 abbrev pub numberOf : Reason → ℕ
 numberOf CacheCount = 1
 numberOf NotSound = 2
@@ -20,8 +22,17 @@ numberOf VidNotNext = 8
 numberOf NotSettled = 9
 numberOf SlotEmpty = 10
 numberOf NoRoom = 11
-numberOf Unreadable = 12
+numberOf (Unreadable f column) = 12
 numberOf NoFit = 13
+numberOf TextTooLong = 14
+
+-- 2026-01: "12 splits into 12a to 12e in that list's order"
+abbrev pub letterOf : Fault → ℕ
+letterOf WrongKey = 97
+letterOf BadNumber = 98
+letterOf NumberTooLarge = 99
+letterOf KeyNotZero = 100
+letterOf NoLineEnd = 101
 
 -- "Answers: value (a load), done (any other step), or instead misspec, overflow, refused-N", in ASCII; the number N follows the last
 abbrev pub valueText : List ℕ
@@ -62,7 +73,7 @@ dataOf Misspec = 0
 dataOf Overflow = 0
 dataOf (Refused r) = 0
 
--- what an answer shows: its text, the number of a refusal behind it, and the data
+-- what an answer of the marked cases shows: its text, the number of a refusal behind it, and the data
 pub record Shown : Type 0 where
   pub text : List ℕ
   pub number : ℕ

@@ -1,9 +1,9 @@
 // The types of the machine, of its steps and of their answers.
 //
 // Document 01's rules over these types are the definitions in specs/, a file a heading; the laws about them are in proofs/.
-// The one function here is proved, and the crate assumes nothing.
+// The two functions here are proved, and the crate assumes nothing.
 ghost use mathlib.Core.Path.{_≡_};
-ghost use Rattle.rules.specs.Answer.{numberOf};
+ghost use Rattle.rules.specs.Answer.{numberOf, letterOf};
 
 // I; plain M, O, E, S; speculative S-M, S-O, S-E, S-S.
 pub enum State {
@@ -81,7 +81,16 @@ pub enum Op {
     },
 }
 
-// Why a call is refused, in the order of document 01's table: `number` gives the number there.
+// What is wrong with an unreadable line, in the order of request 2026-01's list: `letter` gives the letter behind the 12.
+pub enum Fault {
+    WrongKey,
+    BadNumber,
+    NumberTooLarge,
+    KeyNotZero,
+    NoLineEnd,
+}
+
+// Why a call is refused, in the order of document 01's table: `number` gives the number there. A line that is unreadable is so from a column on, which has 32 bits: with 64 every answer would be half as long again.
 pub enum Reason {
     CacheCount,
     NotSound,
@@ -94,8 +103,9 @@ pub enum Reason {
     NotSettled,
     SlotEmpty,
     NoRoom,
-    Unreadable,
+    Unreadable(Fault, u32),
     NoFit,
+    TextTooLong,
 }
 
 pub enum Answer {
@@ -112,7 +122,7 @@ pub struct Answered {
     pub machine: Machine,
 }
 
-// Document 01's number of a refusal, 1 to 13.
+// Document 01's number of a refusal, and 14 of request 2026-01.
 pub fn number(reason: Reason) -> u64
     ensures { λ r. ⌜ r ≡ numberOf reason ⌝ }
 {
@@ -128,7 +138,21 @@ pub fn number(reason: Reason) -> u64
         Reason::NotSettled => 9,
         Reason::SlotEmpty => 10,
         Reason::NoRoom => 11,
-        Reason::Unreadable => 12,
+        Reason::Unreadable(_, _) => 12,
         Reason::NoFit => 13,
+        Reason::TextTooLong => 14,
+    }
+}
+
+// The letter of a fault, `a` to `e`.
+pub fn letter(fault: Fault) -> u8
+    ensures { λ r. ⌜ r ≡ letterOf fault ⌝ }
+{
+    match fault {
+        Fault::WrongKey => 97,
+        Fault::BadNumber => 98,
+        Fault::NumberTooLarge => 99,
+        Fault::KeyNotZero => 100,
+        Fault::NoLineEnd => 101,
     }
 }

@@ -24,7 +24,7 @@ fn write_to(fd: i32, out: &[u8], end: usize) {
 
 // The refused first line, plain.
 fn show_refused(fd: i32, reason: Reason) {
-    let mut out = [0u8; 128];
+    let mut out = [0u8; 144];
     let answer = Answer::Refused(reason);
     let Wrote::Next(end) = report::write_line(&mut out, 0, 0, answer, 0) else {
         return;
@@ -37,7 +37,7 @@ fn before(place: usize) -> usize {
     if place == 0 { 0 } else { place - 1 }
 }
 
-// The line of a step, and the machine from the place of its LF on. Whatever the numbers, a slot takes at most 99 bytes, a word 24 and the report's line 128, so there is room for all.
+// The line of a step, and the machine from the place of its LF on. Whatever the numbers, a slot takes at most 99 bytes, a word 24 and the report's line 144, so there is room for all.
 fn show_step(fd: i32, n: u64, answer: Answer, machine: Machine) {
     let mut out = [0u8; 8192];
     let Wrote::Next(end) = report::write_line(&mut out, 0, n, answer, machine.lcvid as u64) else {
@@ -68,8 +68,10 @@ fn play_steps(fd: i32, start: Machine, text: &[u8], from: usize) {
                 n += 1;
                 left -= 1;
             }
-            Read::Unreadable(_) => {
-                show_step(fd, n, Answer::Refused(Reason::Unreadable), machine);
+            Read::Unreadable(fault, column) => {
+                let col = column as u32; // no column is above 111
+                let answer = Answer::Refused(Reason::Unreadable(fault, col));
+                show_step(fd, n, answer, machine);
                 return;
             }
             Read::End => return,
@@ -77,14 +79,8 @@ fn play_steps(fd: i32, start: Machine, text: &[u8], from: usize) {
     }
 }
 
-// Plays a text, and writes each line to the file descriptor.
-pub fn play(fd: i32, text: &[u8]) {
-    if 65536 < text.len() {
-        return show_refused(fd, Reason::Unreadable);
-    }
-    let First::Caches(count, next) = trace::first_line(text) else {
-        return show_refused(fd, Reason::Unreadable);
-    };
+// A machine with so many caches as the first line says, and the steps behind the line.
+fn play_caches(fd: i32, count: u64, text: &[u8], from: usize) {
     let zero = [0u64; 64];
     let made = step::make(count as usize, zero);
     let answer = made.answer;
@@ -92,5 +88,20 @@ pub fn play(fd: i32, text: &[u8]) {
         return show_refused(fd, reason);
     }
     let machine = made.machine;
-    play_steps(fd, machine, text, next)
+    play_steps(fd, machine, text, from)
+}
+
+// Plays a text, and writes each line to the file descriptor.
+pub fn play(fd: i32, text: &[u8]) {
+    if 65536 < text.len() {
+        return show_refused(fd, Reason::TextTooLong);
+    }
+    let first = trace::first_line(text);
+    match first {
+        First::Caches(count, next) => play_caches(fd, count, text, next),
+        First::Broken(fault, column) => {
+            let col = column as u32;
+            show_refused(fd, Reason::Unreadable(fault, col))
+        }
+    }
 }

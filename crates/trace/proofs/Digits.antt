@@ -1,7 +1,7 @@
 -- A number read digit by digit.
 -- Assumes nothing.
 use mathlib.Core.Path.{_≡_}
-use mathlib.Core.Bool.{true, false}
+use mathlib.Core.Bool.{Bool, true, false}
 use mathlib.Core.List.{List}
 use Prim.Native.Nat.{ℕ, _+_, _-_, _*_, _^_, _≤_, _<_}
 use native.Mathlib.Numerals.{add-one}
@@ -11,7 +11,8 @@ use lib.ListN.{length, getD, drop, drop-of-length-le}
 use lib.Seq.{drop-cons}
 use Rattle.rules.proofs.base.Bools.{left, right}
 use Rattle.trace.specs.Numbers.{isDigit, digitsFrom, numberAt}
-use Rattle.trace.specs.declared.numbers.Parsed.the-variants.{Number, Bad}
+use Rattle.rules.specs.declared.Fault.the-variants.{BadNumber, NumberTooLarge, KeyNotZero, NoLineEnd}
+use Rattle.trace.specs.declared.numbers.Parsed.the-variants.{Number, Wrong}
 
 pub digit-least : (b : ℕ) → isDigit b ≡ true → 48 ≤ b
 digit-least b e = leb-true 48 b (left (leb 48 b) (leb b 57) e)
@@ -24,7 +25,7 @@ module _ (s : List ℕ) (v i b : ℕ) (inside : i < length s) (is : getD s i 0 �
   unfolding digitsFrom
   digits-end e = rw (drop-cons s i 0 inside, is, e)
 
-  pub digits-large : isDigit b ≡ true → 2 ^ 64 ≤ v * 10 + (b - 48) → digitsFrom v i (drop i s) ≡ Bad
+  pub digits-large : isDigit b ≡ true → 2 ^ 64 ≤ v * 10 + (b - 48) → digitsFrom v i (drop i s) ≡ Wrong NumberTooLarge i
   unfolding digitsFrom
   digits-large e g = rw (drop-cons s i 0 inside, is, e, le-ltb (v * 10 + (b - 48)) (2 ^ 64) g)
 
@@ -36,28 +37,37 @@ pub digits-stop : (s : List ℕ) (v i : ℕ) → length s ≤ i → digitsFrom v
 unfolding digitsFrom
 digits-stop s v i h = rw (drop-of-length-le s h)
 
-pub number-past : (s : List ℕ) (at : ℕ) → length s ≤ at → numberAt s at ≡ Bad
-unfolding numberAt
-number-past s at h = rw (drop-of-length-le s h)
+-- ---- a number, by its first byte
 
-module _ (s : List ℕ) (at b : ℕ) (inside : at < length s) (is : getD s at 0 ≡ b) where
-  pub number-none : isDigit b ≡ false → numberAt s at ≡ Bad
+module _ (used : Bool) (s : List ℕ) (at : ℕ) where
+  pub number-past : length s ≤ at → numberAt used s at ≡ Wrong NoLineEnd at
   unfolding numberAt
-  number-none e = rw (drop-cons s at 0 inside, is, e)
+  number-past h = rw (drop-of-length-le s h)
 
-  pub number-many : isDigit b ≡ true → (b ≡ 48 → ⊥) → numberAt s at ≡ digitsFrom 0 at (drop at s)
-  unfolding numberAt
-  number-many e d = rw (drop-cons s at 0 inside, is, e, ne-eqb b 48 d)
+  module _ (inside : at < length s) where
+    pub number-none : isDigit (getD s at 0) ≡ false → numberAt used s at ≡ Wrong BadNumber at
+    unfolding numberAt
+    number-none e = rw (drop-cons s at 0 inside, e)
 
-module _ (s : List ℕ) (at : ℕ) (inside : at < length s) (zero : getD s at 0 ≡ 48) where
-  pub zero-last : length s ≤ at + 1 → numberAt s at ≡ Number 0 (at + 1)
-  unfolding numberAt
-  zero-last h = rw (drop-cons s at 0 inside, zero, ← add-one at, drop-of-length-le s h)
+    -- a digit that isn't 0
+    module _ (digit : isDigit (getD s at 0) ≡ true) (some : getD s at 0 ≡ 48 → ⊥) where
+      pub number-many : used ≡ true → numberAt used s at ≡ digitsFrom 0 at (drop at s)
+      unfolding numberAt
+      number-many u = rw (drop-cons s at 0 inside, digit, ne-eqb (getD s at 0) 48 some, u)
 
-  pub zero-leads : at + 1 < length s → isDigit (getD s (at + 1) 0) ≡ true → numberAt s at ≡ Bad
-  unfolding numberAt
-  zero-leads g e = rw (drop-cons s at 0 inside, zero, ← add-one at, drop-cons s (at + 1) 0 g, e)
+      pub number-unused : used ≡ false → numberAt used s at ≡ Wrong KeyNotZero at
+      unfolding numberAt
+      number-unused u = rw (drop-cons s at 0 inside, digit, ne-eqb (getD s at 0) 48 some, u)
 
-  pub zero-alone : at + 1 < length s → isDigit (getD s (at + 1) 0) ≡ false → numberAt s at ≡ Number 0 (at + 1)
-  unfolding numberAt
-  zero-alone g e = rw (drop-cons s at 0 inside, zero, ← add-one at, drop-cons s (at + 1) 0 g, e)
+    module _ (zero : getD s at 0 ≡ 48) where
+      pub zero-last : length s ≤ at + 1 → numberAt used s at ≡ Number 0 (at + 1)
+      unfolding numberAt
+      zero-last h = rw (drop-cons s at 0 inside, zero, ← add-one at, drop-of-length-le s h)
+
+      pub zero-leads : at + 1 < length s → isDigit (getD s (at + 1) 0) ≡ true → numberAt used s at ≡ Wrong BadNumber (at + 1)
+      unfolding numberAt
+      zero-leads g e = rw (drop-cons s at 0 inside, zero, ← add-one at, drop-cons s (at + 1) 0 g, e)
+
+      pub zero-alone : at + 1 < length s → isDigit (getD s (at + 1) 0) ≡ false → numberAt used s at ≡ Number 0 (at + 1)
+      unfolding numberAt
+      zero-alone g e = rw (drop-cons s at 0 inside, zero, ← add-one at, drop-cons s (at + 1) 0 g, e)

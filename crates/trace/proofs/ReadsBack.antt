@@ -1,162 +1,143 @@
--- Reading gives back what is written, and nothing else is read as it: a number's decimal text, and a step's line.
+-- Reading gives back what is written, and nothing else is read as it: a number's decimal text, the first line, and a step's line.
 -- Assumes nothing.
-use mathlib.Core.Path.{_≡_, refl}
-use mathlib.Core.Bool.{Bool, true, false, _&&_}
-use mathlib.Core.List.{List, _++_}
-use Prim.Native.Nat.{ℕ, _+_}
+use mathlib.Core.Path.{_≡_, refl, sym, _∙_, ap}
+use mathlib.Core.Bool.{true, false}
+use mathlib.Core.List.{List, [], _∷_, _++_}
+use Prim.Native.Nat.{ℕ, _+_, _<_}
 use native.Mathlib.Omega.{arith}
-use borrow.Author.Tests.{eqb-true}
-use lib.Dec.{eqb}
-use lib.ListN.{length, drop}
-use lib.Seq.{drop-append-seam}
+use borrow.Author.Tests.{lt-leb}
+use lib.ListN.{length, drop, length-drop}
+use lib.Seq.{drop-append-seam, drop-drop}
 use Rattle.rules.specs.declared.Op.{Op}
-use Rattle.rules.specs.declared.Op.the-variants.{Load, Store, Commit, Abort, Reset, Evict}
-use Rattle.rules.specs.Text.{lf, dataKey, decimal}
-use Rattle.rules.proofs.base.Bools.{left, right}
+use Rattle.rules.specs.Text.{decimal}
 use Rattle.trace.specs.declared.numbers.Parsed.the-variants.{Number}
+use Rattle.trace.specs.declared.First.the-variants.{Caches}
 use Rattle.trace.specs.declared.Read.the-variants.{Step}
 use Rattle.trace.specs.declared.Kind.{Kind}
 use Rattle.trace.specs.declared.Kind.the-variants.{AskLoad, AskStore, AskCommit, AskAbort, AskReset, AskEvict}
-use Rattle.trace.specs.declared.Named.the-variants.{OfKind}
-use Rattle.trace.specs.Numbers.{numberAt, fieldAt}
-use Rattle.trace.specs.Trace.{cacheKey, vidKey, atKey, opText, kindAt, unusedAreZero, opOf, readAt}
-use Rattle.trace.specs.Written.{fieldText, writtenLine, stepText, Small, Fits, startsDigit}
-use Rattle.trace.proofs.Stands.{Stands, stands, stands-both, first-part, second-part, key-holds, key-found}
-use Rattle.trace.proofs.Line.{StepLine, line, step-line, line-step}
-use Rattle.trace.proofs.Pieces.{op-back, op-only, field-back, field-only}
-use Rattle.trace.proofs.Lengths.{line-long}
-use Rattle.trace.proofs.Decimal.{written-in}
+use Rattle.trace.specs.Numbers.{numberAt}
+use Rattle.trace.specs.Trace.{cacheKey, opText, fieldsOf, firstFields, firstOf, kindBy, kindAt, readAt}
+use Rattle.trace.specs.Written.{firstText, stepText, Small, Fits, startsDigit}
+use Rattle.trace.proofs.lines.Stands.{Stands, stands}
+use Rattle.trace.proofs.lines.Decimal.{differ, always, written-in}
+use Rattle.trace.proofs.lines.GoodLines.{Good, line-back}
+use Rattle.trace.proofs.lines.Due.{letter}
+use Rattle.trace.proofs.lines.WrittenLines.{first-keyed, first-good, step-keyed, spelt}
+use Rattle.trace.proofs.lines.Readings.{FirstReading, first-reading, StepReading, step-reading}
 
 -- the decimal text of a number, with no digit behind it, is read as the number
 pub number-back : (n : ℕ) → Small n → (front rest : List ℕ) → startsDigit rest ≡ false
-    → numberAt (front ++ (decimal n ++ rest)) (length front) ≡ Number n (length front + length (decimal n))
+    → numberAt true (front ++ (decimal n ++ rest)) (length front) ≡ Number n (length front + length (decimal n))
 unfolding numberAt
-number-back n small front rest e = rw (drop-append-seam front (decimal n ++ rest)) (written-in n (length front) rest small e)
+number-back n small front rest e = rw (drop-append-seam front (decimal n ++ rest)) (written-in true n (length front) rest (always n small) e)
+
+-- ---- the op of a line
+
+-- what every line of an op begins with
+pub record OpLine (k : Kind) (line : List ℕ) : Type 0 where
+  pub others : List ℕ
+  pub is : line ≡ 111 ∷ 112 ∷ 61 ∷ letter k ∷ others
+
+pub op-text : (k : Kind) → (others : List ℕ) × (opText k ++ cacheKey ≡ 111 ∷ 112 ∷ 61 ∷ letter k ∷ others)
+op-text AskLoad = (_, refl)
+op-text AskStore = (_, refl)
+op-text AskCommit = (_, refl)
+op-text AskAbort = (_, refl)
+op-text AskReset = (_, refl)
+op-text AskEvict = (_, refl)
+
+pub op-line : (k : Kind) (ns line : List ℕ) → Good (fieldsOf k) ns line → OpLine k line
+unfolding Good
+op-line k ns line good =
+    let o = op-text k in
+    record { others = o .0 ++ (decimal (good .value) ++ good .rest); is = good .text ∙ ap (λ t. t ++ (decimal (good .value) ++ good .rest)) (o .1) }
+
+-- its first letter tells the op
+pub by-letter : (k : Kind) (t : List ℕ) → kindBy (letter k ∷ t) ≡ k
+by-letter AskLoad t = refl
+by-letter AskStore t = refl
+by-letter AskCommit t = refl
+by-letter AskAbort t = refl
+by-letter AskReset t = refl
+by-letter AskEvict t = refl
+
+-- ---- what is written is read
 
 module _ (s : List ℕ) where
-  -- ---- what is written, as a line that is read
+  -- the place of a text with a byte in it is within
+  within : (at next b : ℕ) (text : List ℕ) → Stands s at (b ∷ text) next → at < length s
+  within at next b text h = let l = ap length (h .holds) in omega (arith, l, length-drop at s)
 
-  -- an op stands there, and more behind it
-  op-then : {P : Type 0} (k : Kind) (more : List ℕ) (at next : ℕ) → Stands s at (opText k ++ more) next → ((i : ℕ) → kindAt s at ≡ OfKind k i → Stands s i more next → P) → P
-  op-then k more at next h f = f (at + length (opText k)) (op-back s at k (at + length (opText k)) (first-part s at (opText k) more next h)) (second-part s at (opText k) more next h)
+  pub first-stands : (n next : ℕ) → Small n → Stands s 0 (firstText n) next → firstOf s ≡ Caches n next
+  unfolding firstOf
+  first-stands n next small h = rw (line-back s firstFields (n ∷ []) (firstText n) 0 next first-keyed (first-good n _ small refl) h)
 
-  -- a key and its number stand there, and more behind them that begins with no digit
-  field-then : {P : Type 0} (key more : List ℕ) (at n next : ℕ) → Small n → startsDigit (more ++ drop next s) ≡ false → Stands s at (fieldText key n ++ more) next
-      → ((q : ℕ) → fieldAt key s at ≡ Number n q → Stands s q more next → P) → P
-  field-then key more at n next small e h f =
-      let q = at + length (fieldText key n) in
-      let behind = second-part s at (fieldText key n) more next h in
-      f q (field-back s at key n q small (first-part s at (fieldText key n) more next h) (rw (behind .holds) e)) behind
-
-  -- the four numbers, and unused keys 0
-  line-back : (k : Kind) (at c v x d next : ℕ) → Small c → Small v → Small x → Small d → unusedAreZero k c v x d ≡ true → Stands s at (writtenLine k c v x d) next
-      → StepLine s at (opOf k c v x d) next
-  unfolding writtenLine
-  line-back k at c v x d next c-small v-small x-small d-small unused h =
-      op-then k _ at next h (λ i named h.
-      field-then cacheKey _ i c next c-small refl h (λ j cache h.
-      field-then vidKey _ j v next v-small refl h (λ m vid h.
-      field-then atKey _ m x next x-small refl h (λ l place h.
-      field-then dataKey lf l d next d-small refl h (λ e word h.
-      rw (h .after) (line k c v x d i j m l e named cache vid place word (key-found lf s e next h) unused))))))
-
-  none : Small 0
-  none = omega arith
-
-  -- a step's line: its unused keys are 0
-  text-line : (op : Op) (at next : ℕ) → Fits op → Stands s at (stepText op) next → StepLine s at op next
-  unfolding stepText
-  text-line (Load c v x) at next fits = line-back AskLoad at c v x 0 next (fits .0) (fits .1) (fits .2) none refl
-  text-line (Store c v x d) at next fits = line-back AskStore at c v x d next (fits .0) (fits .1) (fits .2) (fits .3) refl
-  text-line (Commit v) at next fits = line-back AskCommit at 0 v 0 0 next none fits none none refl
-  text-line Abort at next fits = line-back AskAbort at 0 0 0 0 next none none none none refl
-  text-line Reset at next fits = line-back AskReset at 0 0 0 0 next none none none none refl
-  text-line (Evict c t) at next fits = line-back AskEvict at c 0 t 0 next (fits .0) none (fits .1) none refl
+  kind-stands : (k : Kind) (ns line : List ℕ) (at next : ℕ) → Good (fieldsOf k) ns line → Stands s at line next → kindAt s at ≡ k
+  unfolding kindAt
+  kind-stands k ns line at next good h =
+      let o = op-line k ns line good in
+      let e : drop (at + 3) s ≡ letter k ∷ (o .others ++ drop next s) = sym (drop-drop 3 at s) ∙ ap (drop 3) (rw (o .is) at (h .holds)) in
+      rw e (by-letter k (o .others ++ drop next s))
 
   -- wherever a step's line stands as it is written, it is read as the step
-  pub text-step : (op : Op) (at next : ℕ) → Fits op → Stands s at (stepText op) next → readAt s at ≡ Step op next
-  text-step op at next fits h =
-      let l = text-line op at next fits h in
-      line-step s at op next (omega (arith, line-long s at op next l)) l
+  pub step-stands : (op : Op) (at next : ℕ) → Fits op → Stands s at (stepText op) next → readAt s at ≡ Step op next
+  unfolding readAt
+  step-stands op at next fits h =
+      let w = spelt op fits in
+      let o = op-line (w .kind) (w .values) (stepText op) (w .good) in
+      let inside = within at next 111 (112 ∷ 61 ∷ letter (w .kind) ∷ o .others) (rw (← o .is) h) in
+      rw (lt-leb (length s) at inside, kind-stands (w .kind) (w .values) (stepText op) at next (w .good) h)
+      (rw (line-back s (fieldsOf (w .kind)) (w .values) (stepText op) at next (step-keyed (w .kind)) (w .good) h, w .is))
+
+-- the first line as it is written, whatever is behind it
+pub first-back : (n : ℕ) → Small n → (rest : List ℕ) → firstOf ((firstText n) ++ rest) ≡ Caches n (length (firstText n))
+first-back n small rest =
+    let s = firstText n ++ rest in
+    let e : 0 + length (firstText n) ≡ length (firstText n) = omega arith in
+    first-stands s n (length (firstText n)) small (rw e at (stands s 0 (firstText n) rest refl))
 
 -- a step's line as it is written, whatever is before it and behind it, is read as the step, and the next place is the one after the line
 pub step-back : (op : Op) → Fits op → (front rest : List ℕ) → readAt (front ++ (stepText op ++ rest)) (length front) ≡ Step op (length front + length (stepText op))
 step-back op fits front rest =
     let s = front ++ (stepText op ++ rest) in
-    text-step s op (length front) (length front + length (stepText op)) fits (stands s (length front) (stepText op) rest (drop-append-seam front (stepText op ++ rest)))
+    step-stands s op (length front) (length front + length (stepText op)) fits (stands s (length front) (stepText op) rest (drop-append-seam front (stepText op ++ rest)))
 
 -- ---- and nothing else
 
--- the tests of unused keys
-zero-and : (n : ℕ) (b : Bool) → (eqb n 0 && b) ≡ true → (n ≡ 0) × (b ≡ true)
-zero-and n b e = (eqb-true n 0 (left (eqb n 0) b e), right (eqb n 0) b e)
-
-all-zero : (k : Kind) (c v x d : ℕ) → (eqb c 0 && (eqb v 0 && (eqb x 0 && eqb d 0))) ≡ true → writtenLine k c v x d ≡ writtenLine k 0 0 0 0
-all-zero k c v x d u =
-    let p = zero-and c (eqb v 0 && (eqb x 0 && eqb d 0)) u in
-    let q = zero-and v (eqb x 0 && eqb d 0) (p .1) in
-    let r = zero-and x (eqb d 0) (q .1) in
-    rw (p .0, q .0, r .0, eqb-true d 0 (r .1))
-
-module _ (c v x d : ℕ) where
-  -- unused keys are 0, so the line is the one that is written
-  as-written : (k : Kind) → unusedAreZero k c v x d ≡ true → writtenLine k c v x d ≡ stepText (opOf k c v x d)
-  unfolding stepText
-  as-written AskLoad u = rw (eqb-true d 0 u)
-  as-written AskStore u = refl
-  as-written AskCommit u =
-      let p = zero-and c (eqb x 0 && eqb d 0) u in
-      let q = zero-and x (eqb d 0) (p .1) in
-      rw (p .0, q .0, eqb-true d 0 (q .1))
-  as-written AskAbort u = all-zero AskAbort c v x d u
-  as-written AskReset u = all-zero AskReset c v x d u
-  as-written AskEvict u =
-      let p = zero-and v (eqb d 0) u in
-      rw (p .0, eqb-true d 0 (p .1))
-
-  all-fit : (k : Kind) → Small c → Small v → Small x → Small d → Fits (opOf k c v x d)
-  all-fit AskLoad a b e f = (a, b, e)
-  all-fit AskStore a b e f = (a, b, e, f)
-  all-fit AskCommit a b e f = b
-  all-fit AskAbort a b e f = tt
-  all-fit AskReset a b e f = tt
-  all-fit AskEvict a b e f = (a, e)
-
--- what a step that is read was written as
-record Written (s : List ℕ) (at : ℕ) (op : Op) (next : ℕ) : Type 0 where
-  text : Stands s at (stepText op) next
-  fits : Fits op
-
-line-written : (s : List ℕ) (at : ℕ) (op : Op) (next : ℕ) → StepLine s at op next → Written s at op next
-unfolding writtenLine
-line-written s at op next (line kind c v x d i j m l e named cache vid place word ended unused) =
-    let t-cache = field-only s i cacheKey c j cache in
-    let t-vid = field-only s j vidKey v m vid in
-    let t-at = field-only s m atKey x l place in
-    let t-data = field-only s l dataKey d e word in
-    record {
-      text =
-          rw (← as-written c v x d kind unused)
-          (stands-both s at (opText kind) _ next (op-only s at kind i named)
-          (stands-both s i (fieldText cacheKey c) _ next (t-cache .0)
-          (stands-both s j (fieldText vidKey v) _ next (t-vid .0)
-          (stands-both s m (fieldText atKey x) _ next (t-at .0)
-          (stands-both s l (fieldText dataKey d) lf next (t-data .0) (key-holds lf s e ended))))));
-      fits = all-fit c v x d kind (t-cache .1) (t-vid .1) (t-at .1) (t-data .1);
-    }
+module _ (s : List ℕ) (n next : ℕ) (h : firstOf s ≡ Caches n next) where
+  -- the first line is read only where it stands as it is written, and its number fits
+  pub only-first : Small n × Stands s 0 (firstText n) next
+  only-first = go (first-reading s)
+    where
+      go : FirstReading s (firstOf s) → Small n × Stands s 0 (firstText n) next
+      go (FirstReading.caches m next′ small stood is) =
+          let e : Caches m next′ ≡ Caches n next = sym is ∙ h in
+          let a : m ≡ n = cc in
+          let b : next′ ≡ next = cc in
+          rw (← a, ← b) (small, stood)
+      go (FirstReading.broken f place off is) = differ cc
 
 module _ (s : List ℕ) (at : ℕ) (op : Op) (next : ℕ) (h : readAt s at ≡ Step op next) where
-  written : Written s at op next
-  written = line-written s at op next (step-line s at op next h)
+  written : Fits op × Stands s at (stepText op) next
+  written = go (step-reading s at)
+    where
+      go : StepReading s at (readAt s at) → Fits op × Stands s at (stepText op) next
+      go (StepReading.ended past is) = differ cc
+      go (StepReading.step o next′ fits stood is) =
+          let e : Step o next′ ≡ Step op next = sym is ∙ h in
+          let a : o ≡ op = cc in
+          let b : next′ ≡ next = cc in
+          rw (← a, ← b) (fits, stood)
+      go (StepReading.broken f place inside off is) = differ cc
 
   -- a step is read only where its line stands as it is written
   pub only-written : drop at s ≡ stepText op ++ drop next s
-  only-written = written .text .holds
+  only-written = written .1 .holds
 
   -- the next place is the one after that line
   pub only-after : next ≡ at + length (stepText op)
-  only-after = written .text .after
+  only-after = written .1 .after
 
   -- and its numbers fit
   pub only-fits : Fits op
-  only-fits = written .fits
+  only-fits = written .0

@@ -1,4 +1,4 @@
--- A step as its line is written: the op, each key with its number, LF.
+-- The first line and a step's as they are written: the op, each key with its number, LF.
 -- Assumes nothing.
 use mathlib.Core.Bool.{Bool, false}
 use mathlib.Core.List.{List, [], _∷_, _++_}
@@ -9,11 +9,15 @@ use Rattle.rules.specs.Text.{lf, dataKey, decimal}
 use Rattle.trace.specs.declared.Kind.{Kind}
 use Rattle.trace.specs.declared.Kind.the-variants.{AskLoad, AskStore, AskCommit, AskAbort, AskReset, AskEvict}
 use Rattle.trace.specs.Numbers.{isDigit}
-use Rattle.trace.specs.Trace.{cacheKey, vidKey, atKey, opText}
+use Rattle.trace.specs.Trace.{cachesKey, cacheKey, vidKey, atKey, opText}
 
 -- a key and its number
 abbrev pub fieldText : List ℕ → ℕ → List ℕ
 fieldText key n = key ++ decimal n
+
+-- "first line `caches=N`"
+abbrev pub firstText : ℕ → List ℕ
+firstText n = fieldText cachesKey n ++ lf
 
 -- "one step a line, keys in this order, one space between"
 unfoldable pub writtenLine : Kind → ℕ → ℕ → ℕ → ℕ → List ℕ

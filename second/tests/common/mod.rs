@@ -1,6 +1,7 @@
 //! Short ways to write traces, shared by the tests.
 #![allow(dead_code)]
 
+pub mod oracle;
 pub mod random;
 
 use second::{check, play, play_showing_machine};

@@ -1,5 +1,6 @@
 //! Seeded random traces, steered to where caches fill, VIDs meet and flights
-//! end. The steering looks at a machine, but only at its LCVID and lines.
+//! end. The steering looks at a machine, but only at its LCVID and lines. Also
+//! such traces damaged.
 
 use second::contents::{Contents, SLOTS, WORDS};
 use second::step::Step;
@@ -24,6 +25,10 @@ impl Random {
     pub fn one_in(&mut self, odds: u64) -> bool {
         self.below(odds) == 0
     }
+}
+
+pub fn setting(name: &str, otherwise: u64) -> u64 {
+    std::env::var(name).map_or(otherwise, |text| text.parse().expect("a number"))
 }
 
 /// What one trace leans to.
@@ -135,5 +140,52 @@ fn mistake(random: &mut Random, bent: &Bent, lcvid: u64) -> Step {
         6 => Step::Evict { cache: 0, slot: 16 },
         7 => Step::Evict { cache: large, slot: large },
         _ => Step::Evict { cache: 0, slot: random.below(16) },
+    }
+}
+
+/// A trace with a few bytes changed, left out or put in, numbers replaced or
+/// its end cut off.
+pub fn damaged(random: &mut Random, steps: usize) -> Vec<u8> {
+    let mut text = trace(random, steps).into_bytes();
+    for _ in 0..1 + random.below(3) {
+        // A cut may have left nothing to damage.
+        if text.is_empty() {
+            break;
+        }
+        let place = random.below(text.len() as u64) as usize;
+        let likely = b"\n\r 0123456789=abcdelmoprstv\x00\xff";
+        let byte = likely[random.below(likely.len() as u64) as usize];
+        match random.below(7) {
+            0 => text[place] = byte,
+            1 => text.insert(place, byte),
+            2 => drop(text.remove(place)),
+            3 => text.truncate(place + 1),
+            _ => replace_number(random, &mut text, place),
+        }
+    }
+    text
+}
+
+/// The first number behind the place, if there is one.
+fn replace_number(random: &mut Random, text: &mut Vec<u8>, place: usize) {
+    const INSTEAD: [&str; 12] = [
+        "",
+        "5",
+        "05",
+        "00",
+        "63",
+        "18446744073709551615",
+        "18446744073709551616",
+        "018446744073709551616",
+        "20000000000000000000",
+        "184467440737095516150",
+        "99999999999999999999999999999999",
+        "-1",
+    ];
+    let instead = INSTEAD[random.below(INSTEAD.len() as u64) as usize];
+    let is_digit = |at: &usize| text[*at].is_ascii_digit();
+    if let Some(from) = (place..text.len()).find(is_digit) {
+        let to = (from..text.len()).find(|at| !is_digit(at)).unwrap_or(text.len());
+        drop(text.splice(from..to, instead.bytes()));
     }
 }

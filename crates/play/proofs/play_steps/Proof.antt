@@ -6,6 +6,7 @@ use native.Mathlib.Omega.{arith}
 use lib.ListN.{length}
 use borrow.Author.Needs.{needs}
 use Rattle.rules.specs.House.{House, Sized}
+use Rattle.trace.proofs.Lengths.{step-column}
 use Rattle.play.specs.Play.{linesFrom}
 use Rattle.play.proofs.Telling.{Telling, telling-none, telling-end, telling-refused, telling-wrote, telling-last, plays-length}
 use Rattle.play.proofs.Turns.{stepped, stepped-sound, no-turn, turn-ends, turn-breaks, turn-steps}
@@ -77,29 +78,36 @@ loop-again c =
     (turn-steps _ _ _ _ _ (l .before .loop-test .taken) (sym (l .read-at .ensures) ∙ a .read .given .1) (stepped (loop .inv .1 .0) _ (d .rule .ensures))) (rw (w .before .before .wide .ensures) at (w .write-line .ensures)) _ (c .before .last .given .1) in
     (omega (arith, loop .inv .0, l .before .loop-test .taken), (stepped-sound (loop .inv .1 .0) _ (d .rule .ensures), more))
 
-enum-told-2 : tie.Need-enum-told-2 Inv-loop μ-loop
-enum-told-2 c = search needs
+enum-known-read-2 : tie.Need-enum-known-read-2 Inv-loop μ-loop
+enum-known-read-2 c = search needs
+
+unreadable-requires : tie.Need-unreadable-requires Inv-loop μ-loop
+unreadable-requires c κs =
+    let a = c .before .before in
+    let near = step-column _ _ _ _ (sym (a .before .before .read-at .ensures) ∙ a .read2 .given .1) in
+    omega (arith, near)
 
 last-line-requires : tie.Need-last-line-requires Inv-loop μ-loop
 last-line-requires c κs = search needs
 
 returns-2 : tie.Need-returns-2 Inv-loop μ-loop
 returns-2 c =
-    let a = c .before .before .before .before in
+    let u = c .before .before .before in
+    let a = u .before .before .before in
     let l = a .before .before in
     telling-last (l .before .before .loop .inv .1 .1)
-    (turn-breaks _ _ _ _ _ (l .before .loop-test .taken) (sym (l .read-at .ensures) ∙ a .enum-told2 .given .1)) (c .before .before .last-line .ensures)
+    (turn-breaks _ _ _ _ _ (l .before .loop-test .taken) (sym (l .read-at .ensures) ∙ a .read2 .given .1)) (rw (u .unreadable .ensures) at (c .before .before .last-line .ensures))
 
 same-length-2 : tie.Need-same-length-2 Inv-loop μ-loop
 same-length-2 c = plays-length (returns-2 c)
 
-enum-told-3 : tie.Need-enum-told-3 Inv-loop μ-loop
-enum-told-3 c = search needs
+enum-told-2 : tie.Need-enum-told-2 Inv-loop μ-loop
+enum-told-2 c = search needs
 
 returns-3 : tie.Need-returns-3 Inv-loop μ-loop
 returns-3 c =
     let l = c .before .before in
-    telling-end (l .before .before .loop .inv .1 .1) (turn-ends _ _ _ _ _ (l .before .loop-test .taken) (sym (l .read-at .ensures) ∙ c .enum-told3 .given .1))
+    telling-end (l .before .before .loop .inv .1 .1) (turn-ends _ _ _ _ _ (l .before .loop-test .taken) (sym (l .read-at .ensures) ∙ c .enum-told2 .given .1))
 
 same-length-3 : tie.Need-same-length-3 Inv-loop μ-loop
 same-length-3 c = plays-length (returns-3 c)
@@ -131,11 +139,12 @@ play-steps-spec =
     sub-left
     loop-less
     loop-again
-    enum-told-2
+    enum-known-read-2
+    unreadable-requires
     last-line-requires
     same-length-2
     returns-2
-    enum-told-3
+    enum-told-2
     same-length-3
     returns-3
     same-length-4

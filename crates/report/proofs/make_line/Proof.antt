@@ -1,5 +1,6 @@
--- The pieces of the line, one behind the other: 115 bytes at most.
+-- The pieces of the line, one behind the other: 141 bytes at most.
 -- Assumes nothing.
+use Prim.Native.Nat.{_≤_}
 use native.Mathlib.Omega.{arith}
 use borrow.Author.Needs.{needs}
 use Rattle.rules.specs.Text.{lf, dataKey}
@@ -47,16 +48,24 @@ put-text-requires-4 c κs = search needs
 put-digits-requires-3 : tie.Need-put-digits-requires-3
 put-digits-requires-3 c κs = search needs
 
+-- the end begins at 115 at most
+before-end : (c : tie.After-put-digits3) → c .put-digits3 .result ≤ 115
+before-end c = search needs
+
+put-end-requires : tie.Need-put-end-requires
+put-end-requires c κs = search needs
+
 slice-aggregate-put-text-5 : tie.Need-slice-aggregate-put-text-5
 slice-aggregate-put-text-5 c = search needs
 
 put-text-requires-5 : tie.Need-put-text-requires-5
-put-text-requires-5 c κs = search needs
+put-text-requires-5 c κs = omega (arith, before-end (c .before .before .before .before))
 
 returns : tie.Need-returns
 unfolding lineText
 returns c =
-    let k8 = c .before .before .before in
+    let k9 = c .before .before .before in
+    let k8 = k9 .before .before in
     let k7 = k8 .before .before in
     let k6 = k7 .before .before .before in
     let w = k6 .before .before in
@@ -67,13 +76,14 @@ returns c =
     let k1 = k2 .before .before in
     let b2 = put-then _ _ stepKey _ 5 20 _ _ _ _ (k1 .put-text .ensures) (k2 .put-digits .ensures) in
     let b3 = put-then _ _ _ answerKey _ 8 _ _ _ _ b2 (k3 .put-text2 .ensures) in
-    let b4 = put-then _ _ _ _ _ 28 _ _ _ _ b3 (k4 .put-answer .ensures) in
+    let b4 = put-then _ _ _ _ _ 29 _ _ _ _ b3 (k4 .put-answer .ensures) in
     let b5 = put-then _ _ _ dataKey _ 6 _ _ _ _ b4 (k5 .put-text3 .ensures) in
     let b6 = put-then _ _ _ _ _ 20 _ _ _ _ b5 (k6 .put-digits2 .ensures) in
     let b7 = put-then _ _ _ lcvidKey _ 7 _ _ _ _ b6 (k7 .put-text4 .ensures) in
     let b8 = put-then _ _ _ _ _ 20 _ _ _ _ b7 (k8 .put-digits3 .ensures) in
-    let b9 = put-then _ _ _ lf _ 1 _ _ _ _ b8 (c .put-text5 .ensures) in
-    rw (← w .data-of .ensures) (put-wider _ _ _ _ 128 _ _ (omega arith) b9)
+    let b9 = put-then _ _ _ _ _ 25 _ _ _ _ b8 (k9 .put-end .ensures) in
+    let b10 = put-then _ _ _ lf _ 1 _ _ _ _ b9 (c .put-text5 .ensures) in
+    rw (← w .data-of .ensures) (put-wider _ _ _ _ 144 _ _ (omega arith) b10)
 
 pub make-line-spec : {M : Type 1} → statement M
 make-line-spec =
@@ -92,6 +102,7 @@ make-line-spec =
     slice-aggregate-put-text-4
     put-text-requires-4
     put-digits-requires-3
+    put-end-requires
     slice-aggregate-put-text-5
     put-text-requires-5
     returns)

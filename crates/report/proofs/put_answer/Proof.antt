@@ -1,4 +1,4 @@
--- The text of each answer; a refusal's number comes behind it.
+-- The text of each answer; a refusal's number and letter come behind it.
 -- Assumes nothing.
 use native.Mathlib.Omega.{arith}
 use borrow.Author.Needs.{needs}
@@ -58,23 +58,28 @@ number-requires c κs = search needs
 put-digits-requires : tie.Need-put-digits-requires
 put-digits-requires c κs = search needs
 
+put-letter-requires : tie.Need-put-letter-requires
+put-letter-requires c κs = search needs
+
 returns : tie.Need-returns
-returns c = rw (c .before .before .before .enum-told .given .1) (put-wider _ _ _ _ 28 _ _ (omega arith) (c .put-text .ensures))
+returns c = rw (c .before .before .before .enum-told .given .1) (put-wider _ _ _ _ 29 _ _ (omega arith) (c .put-text .ensures))
 
 returns-2 : tie.Need-returns-2
-returns-2 c = rw (c .before .before .before .enum-told2 .given .1) (put-wider _ _ _ _ 28 _ _ (omega arith) (c .put-text2 .ensures))
+returns-2 c = rw (c .before .before .before .enum-told2 .given .1) (put-wider _ _ _ _ 29 _ _ (omega arith) (c .put-text2 .ensures))
 
 returns-3 : tie.Need-returns-3
-returns-3 c = rw (c .before .before .before .enum-told3 .given .1) (put-wider _ _ _ _ 28 _ _ (omega arith) (c .put-text3 .ensures))
+returns-3 c = rw (c .before .before .before .enum-told3 .given .1) (put-wider _ _ _ _ 29 _ _ (omega arith) (c .put-text3 .ensures))
 
 returns-4 : tie.Need-returns-4
-returns-4 c = rw (c .before .before .before .enum-told4 .given .1) (put-wider _ _ _ _ 28 _ _ (omega arith) (c .put-text4 .ensures))
+returns-4 c = rw (c .before .before .before .enum-told4 .given .1) (put-wider _ _ _ _ 29 _ _ (omega arith) (c .put-text4 .ensures))
 
 returns-5 : tie.Need-returns-5
 returns-5 c =
-    let n = c .before .before in
+    let d = c .before .before in
+    let n = d .before .before in
     let m = n .before .before .before .before .before in
-    rw (m .answer .given .1, ← n .number .ensures) (put-then _ _ refusedText _ 8 20 _ _ _ _ (n .before .put-text5 .ensures) (c .put-digits .ensures))
+    let b = put-then _ _ refusedText _ 8 20 _ _ _ _ (n .before .put-text5 .ensures) (d .put-digits .ensures) in
+    rw (m .answer .given .1, ← n .number .ensures) (put-then _ _ _ _ 28 1 _ _ _ _ b (c .put-letter .ensures))
 
 pub put-answer-spec : {M : Type 1} → statement M
 put-answer-spec =
@@ -97,6 +102,7 @@ put-answer-spec =
     put-text-requires-5
     number-requires
     put-digits-requires
+    put-letter-requires
     returns
     returns-2
     returns-3

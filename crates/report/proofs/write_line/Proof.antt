@@ -11,7 +11,7 @@ use Rattle.report.proofs.write_line.Statement.{statement}
 use Rattle.report.proofs.write_line.Tie as tie
 
 -- the local array keeps its length
-long : (c : tie.After-make-line) → length (c .make-line .last .0) ≡ 128
+long : (c : tie.After-make-line) → length (c .make-line .last .0) ≡ 144
 long c = ap length (c .make-line .ensures .holds) ∙ simp (length-sets, length-replicate)
 
 returns : tie.Need-returns
@@ -47,7 +47,7 @@ returns-2 : tie.Need-returns-2
 returns-2 c =
     let q = c .before .before .before in
     let k = q .before .before .before in
-    copied _ _ _ (k .before .before .if1 .left) _ _ _ _ _ (omega (arith, length-replicate {A = ℕ} 128 0)) (k .make-line .ensures) (rw (c .if2 .taken) at (q .copy-line .ensures))
+    copied _ _ _ (k .before .before .if1 .left) _ _ _ _ _ (omega (arith, length-replicate {A = ℕ} 144 0)) (k .make-line .ensures) (rw (c .if2 .taken) at (q .copy-line .ensures))
 
 same-length-2 : tie.Need-same-length-2
 same-length-2 c = search needs
@@ -56,7 +56,7 @@ returns-3 : tie.Need-returns-3
 returns-3 c =
     let q = c .before .before .before in
     let k = q .before .before .before in
-    not-copied _ _ _ (k .before .before .if1 .left) _ _ _ _ _ (omega (arith, length-replicate {A = ℕ} 128 0)) (k .make-line .ensures) (rw (c .if2 .left) at (q .copy-line .ensures))
+    not-copied _ _ _ (k .before .before .if1 .left) _ _ _ _ _ (omega (arith, length-replicate {A = ℕ} 144 0)) (k .make-line .ensures) (rw (c .if2 .left) at (q .copy-line .ensures))
 
 pub write-line-spec : {M : Type 1} → statement M
 write-line-spec =

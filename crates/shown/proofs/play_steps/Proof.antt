@@ -1,8 +1,11 @@
--- The loop has a turn at most for each byte of the text, so the steps can be counted.
+-- The loop has a turn at most for each byte of the text, so the steps can be counted; and a column is small.
 -- Assumes nothing.
+use mathlib.Core.Path.{sym, _∙_}
 use Prim.Native.Nat.{_≤_, _+_}
+use native.Mathlib.Omega.{arith}
 use lib.ListN.{length}
 use borrow.Author.Needs.{needs}
+use Rattle.trace.proofs.Lengths.{step-column}
 use Rattle.shown.proofs.play_steps.Statement.{statement}
 use Rattle.shown.proofs.play_steps.Tie as tie
 
@@ -39,8 +42,11 @@ loop-less c = search needs
 loop-again : tie.Need-loop-again Inv-loop μ-loop
 loop-again c = search needs
 
-enum-told : tie.Need-enum-told Inv-loop μ-loop
-enum-told c = search needs
+enum-known-read-2 : tie.Need-enum-known-read-2 Inv-loop μ-loop
+enum-known-read-2 c = search needs
+
+cast-col : tie.Need-cast-col Inv-loop μ-loop
+cast-col c = let near = step-column _ _ _ _ (sym (c .before .before .before .read-at .ensures) ∙ c .before .read2 .given .1) in omega (arith, near)
 
 show-step-requires-2 : tie.Need-show-step-requires-2 Inv-loop μ-loop
 show-step-requires-2 c κs = search needs
@@ -48,8 +54,8 @@ show-step-requires-2 c κs = search needs
 returns : tie.Need-returns Inv-loop μ-loop
 returns c = search needs
 
-enum-told-2 : tie.Need-enum-told-2 Inv-loop μ-loop
-enum-told-2 c = search needs
+enum-told : tie.Need-enum-told Inv-loop μ-loop
+enum-told c = search needs
 
 returns-2 : tie.Need-returns-2 Inv-loop μ-loop
 returns-2 c = search needs
@@ -72,9 +78,10 @@ play-steps-spec =
     sub-left
     loop-less
     loop-again
-    enum-told
+    enum-known-read-2
+    cast-col
     show-step-requires-2
     returns
-    enum-told-2
+    enum-told
     returns-2
     returns-3)

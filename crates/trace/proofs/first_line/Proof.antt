@@ -1,14 +1,45 @@
 -- `caches=`, the number and its LF, by what the calls give.
 -- Assumes nothing.
-use mathlib.Core.Path.{sym, _∙_}
+use mathlib.Core.Path.{_≡_, sym, _∙_}
+use mathlib.Core.Bool.{true, false}
+use mathlib.Core.List.{List, []}
+use Prim.Native.Nat.{ℕ, _+_}
 use native.Mathlib.Omega.{arith}
-use borrow.Author.Needs.{needs}
 use borrow.Author.Tests.{not-true, not-false}
-use Rattle.rules.specs.Text.{lf}
-use Rattle.trace.specs.Trace.{firstOf}
-use Rattle.trace.proofs.Keys.{stands-fits}
+use borrow.Author.Needs.{needs}
+use lib.ListN.{length, drop}
+use Rattle.rules.specs.declared.Fault.{Fault}
+use Rattle.rules.specs.declared.Fault.the-variants.{NoLineEnd}
+use Rattle.trace.specs.declared.numbers.Parsed.{Parsed}
+use Rattle.trace.specs.declared.numbers.Parsed.the-variants.{Number, Wrong}
+use Rattle.trace.specs.declared.First.the-variants.{Caches, Broken}
+use Rattle.trace.specs.Numbers.{fieldAt, placeOf, startsLf}
+use Rattle.trace.specs.Trace.{cachesKey, column, firstFields, brokenBy, firstOf}
+use Rattle.trace.proofs.Places.{Within, lf-inside}
+use Rattle.trace.proofs.FieldByField.{Reading, begin, place-within, number-read, broken-in, broken-behind, line-ends}
 use Rattle.trace.proofs.first_line.Statement.{statement}
 use Rattle.trace.proofs.first_line.Tie as tie
+
+-- p is what was read for the one field
+module _ (s : List ℕ) (p : Parsed) (is : p ≡ fieldAt cachesKey true s 0) where
+  start : Reading s firstFields 0 [] firstFields 0
+  start = begin s firstFields 0 (omega arith)
+
+  the-place : Within 0 (length s) (placeOf p)
+  the-place = place-within start p is
+
+  breaks-in : (f : Fault) (place : ℕ) → p ≡ Wrong f place → brokenBy p ≡ firstOf s
+  unfolding firstOf
+  breaks-in f place e = rw (broken-in start p is f place e, e)
+
+  module _ (n next : ℕ) (e : p ≡ Number n next) where
+    breaks-behind : startsLf (drop next s) ≡ false → Broken NoLineEnd (column 0 next) ≡ firstOf s
+    unfolding firstOf
+    breaks-behind h = rw (broken-behind (number-read start p is n next e) h)
+
+    is-read : startsLf (drop next s) ≡ true → Caches n (next + 1) ≡ firstOf s
+    unfolding firstOf
+    is-read h = rw (line-ends (number-read start p is n next e) h)
 
 slice-aggregate-field-at : tie.Need-slice-aggregate-field-at
 slice-aggregate-field-at c = search needs
@@ -16,43 +47,50 @@ slice-aggregate-field-at c = search needs
 field-at-requires : tie.Need-field-at-requires
 field-at-requires c κs = search needs
 
-enum-known-n : tie.Need-enum-known-n
-enum-known-n c = search needs
+enum-known-field : tie.Need-enum-known-field
+enum-known-field c = search needs
 
 enum-told : tie.Need-enum-told
 enum-told c = search needs
 
+broken-requires : tie.Need-broken-requires
+broken-requires c κs =
+    let a = c .before .before .before .before .before in
+    let w = the-place (a .args .s .now) _ (c .before .before .field-at .ensures) in
+    omega (arith, w .to, a .good)
+
 returns : tie.Need-returns
-unfolding firstOf
-returns c = rw (← c .before .before .field-at .ensures, c .enum-told .given .1)
+returns c = c .broken .ensures ∙ breaks-in _ _ (c .before .before .before .field-at .ensures) _ _ (c .before .enum-told .given .1)
 
-slice-aggregate-stands-at : tie.Need-slice-aggregate-stands-at
-slice-aggregate-stands-at c = search needs
+lf-at-requires : tie.Need-lf-at-requires
+lf-at-requires c κs = search needs
 
-stands-at-requires : tie.Need-stands-at-requires
-stands-at-requires c κs = search needs
+broken-requires-2 : tie.Need-broken-requires-2
+broken-requires-2 c κs =
+    let f = c .before .before .before .before .before in
+    let a = f .before .before .before in
+    let w = the-place (a .args .s .now) _ (f .field-at .ensures) in
+    let at = rw (c .before .before .before .field .given .1) at (w .to) in
+    omega (arith, at, a .good)
 
 returns-2 : tie.Need-returns-2
-unfolding firstOf
 returns-2 c =
-    let n = c .before .before .before .before in
-    rw (← n .before .before .field-at .ensures, n .n .given .1, ← c .before .stands-at .ensures, not-true (c .before .stands-at .result) (c .if1 .taken))
+    let l = c .before .before in
+    let f = l .before .before .before .before in
+    c .broken2 .ensures
+    ∙ breaks-behind _ _ (f .field-at .ensures) _ _ (l .before .before .field .given .1) (sym (l .lf-at .ensures) ∙ not-true (l .lf-at .result) (c .before .if1 .taken))
 
-add-t13 : tie.Need-add-t13
-add-t13 c =
-    let d = c .before in
-    let n = d .before .before .before in
-    search (
-      needs,
-      stands-fits lf (n .before .before .before .before .before .args .s .now) (n .n .given .0 .1 .0) (omega arith)
-          (sym (d .stands-at .ensures) ∙ not-false (d .stands-at .result) (c .if1 .left)),
-    )
+add-t10 : tie.Need-add-t10
+add-t10 c =
+    let l = c .before in
+    let a = c .before .before .before .before .before .before .before .before in
+    search (needs, lf-inside (a .args .s .now) (l .before .before .field .given .0 .1 .0) (sym (l .lf-at .ensures) ∙ not-false (l .lf-at .result) (c .if1 .left)))
 
 returns-3 : tie.Need-returns-3
-unfolding firstOf
 returns-3 c =
-    let n = c .before .before .before .before in
-    rw (← n .before .before .field-at .ensures, n .n .given .1, ← c .before .stands-at .ensures, not-false (c .before .stands-at .result) (c .if1 .left))
+    let l = c .before in
+    let f = l .before .before .before .before in
+    is-read _ _ (f .field-at .ensures) _ _ (l .before .before .field .given .1) (sym (l .lf-at .ensures) ∙ not-false (l .lf-at .result) (c .if1 .left))
 
 pub first-line-spec : {M : Type 1} → statement M
 first-line-spec =
@@ -60,11 +98,12 @@ first-line-spec =
     (tie.spec
     slice-aggregate-field-at
     field-at-requires
-    enum-known-n
+    enum-known-field
     enum-told
+    broken-requires
     returns
-    slice-aggregate-stands-at
-    stands-at-requires
+    lf-at-requires
+    broken-requires-2
     returns-2
-    add-t13
+    add-t10
     returns-3)

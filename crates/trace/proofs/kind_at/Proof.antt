@@ -1,208 +1,78 @@
--- The first of the six ops that stands there, and the place after it is within the text.
+-- The letter behind `op=`, where the text has one.
 -- Assumes nothing.
-use mathlib.Core.Path.{sym, _∙_}
+use mathlib.Core.Path.{_≡_, refl}
+use mathlib.Core.List.{List, [], _∷_}
+use Prim.Native.Nat.{ℕ, _+_, _-_, _≤_, _<_}
 use native.Mathlib.Omega.{arith}
+use borrow.Author.Tests.{ne-eqb}
 use borrow.Author.Needs.{needs}
-use Rattle.trace.specs.declared.Kind.the-variants.{AskLoad, AskStore, AskCommit, AskAbort, AskReset, AskEvict}
-use Rattle.trace.specs.Trace.{kindAt, opText}
-use Rattle.trace.proofs.Keys.{stands-fits}
+use lib.ListN.{length, getD, drop-of-length-le}
+use lib.Seq.{drop-cons}
+use Rattle.trace.specs.declared.Kind.the-variants.{AskLoad}
+use Rattle.trace.specs.Trace.{kindBy, kindAt}
 use Rattle.trace.proofs.kind_at.Statement.{statement}
 use Rattle.trace.proofs.kind_at.Tie as tie
 
-slice-aggregate-stands-at : tie.Need-slice-aggregate-stands-at
-slice-aggregate-stands-at c = search needs
+-- the text has a letter there, and it alone tells the kind
+letter-here : (s : List ℕ) (at b : ℕ) → 3 < length s - at → getD s (at + 3) 0 ≡ b → kindBy (b ∷ []) ≡ kindAt s at
+unfolding kindAt
+letter-here s at b h e = rw (drop-cons s (at + 3) 0 (omega (arith, h)), e)
 
-stands-at-requires : tie.Need-stands-at-requires
-stands-at-requires c κs = search needs
-
-add-t13 : tie.Need-add-t13
-add-t13 c =
-    let a = c .before .before .before .before .args in
-    search (needs, stands-fits (opText AskLoad) (a .s .now) (a .at) (omega arith) (sym (c .before .stands-at .ensures) ∙ c .if1 .taken))
+-- the text ends before it
+no-letter : (s : List ℕ) (at : ℕ) → length s ≤ at + 3 → AskLoad ≡ kindAt s at
+unfolding kindAt
+no-letter s at h = rw (drop-of-length-le s h)
 
 returns : tie.Need-returns
-unfolding kindAt
-returns c = rw (← c .before .stands-at .ensures, c .if1 .taken)
+returns c = no-letter _ (c .before .args .at) (omega (arith, c .if1 .taken))
 
-slice-aggregate-stands-at-2 : tie.Need-slice-aggregate-stands-at-2
-slice-aggregate-stands-at-2 c = search needs
-
-stands-at-requires-2 : tie.Need-stands-at-requires-2
-stands-at-requires-2 c κs = search needs
-
-add-t18 : tie.Need-add-t18
-add-t18 c =
-    let a = c .before .before .before .before .before .before .before .args in
-    search (needs, stands-fits (opText AskStore) (a .s .now) (a .at) (omega arith) (sym (c .before .stands-at2 .ensures) ∙ c .if2 .taken))
+sub-if2 : tie.Need-sub-if2
+sub-if2 c = search needs
 
 returns-2 : tie.Need-returns-2
-unfolding kindAt
-returns-2 c =
-    let load = c .before .before .before in
-    rw (← load .before .stands-at .ensures, load .if1 .left, ← c .before .stands-at2 .ensures, c .if2 .taken)
+returns-2 c = no-letter _ (c .before .before .args .at) (omega (arith, c .if2 .taken))
 
-slice-aggregate-stands-at-3 : tie.Need-slice-aggregate-stands-at-3
-slice-aggregate-stands-at-3 c = search needs
+add-letter : tie.Need-add-letter
+add-letter c = search needs
 
-stands-at-requires-3 : tie.Need-stands-at-requires-3
-stands-at-requires-3 c κs = search needs
-
-add-t23 : tie.Need-add-t23
-add-t23 c =
-    let a = c .before .before .before .before .before .before .before .before .before .before .args in
-    search (needs, stands-fits (opText AskCommit) (a .s .now) (a .at) (omega arith) (sym (c .before .stands-at3 .ensures) ∙ c .if3 .taken))
+shared-slice-read-letter : tie.Need-shared-slice-read-letter
+shared-slice-read-letter c = search needs
 
 returns-3 : tie.Need-returns-3
-unfolding kindAt
-returns-3 c =
-    let store = c .before .before .before in
-    let load = store .before .before .before in
-    rw (← load .before .stands-at .ensures, load .if1 .left, ← store .before .stands-at2 .ensures, store .if2 .left, ← c .before .stands-at3 .ensures, c .if3 .taken)
-
-slice-aggregate-stands-at-4 : tie.Need-slice-aggregate-stands-at-4
-slice-aggregate-stands-at-4 c = search needs
-
-stands-at-requires-4 : tie.Need-stands-at-requires-4
-stands-at-requires-4 c κs = search needs
-
-add-t28 : tie.Need-add-t28
-add-t28 c =
-    let a = c .before .before .before .before .before .before .before .before .before .before .before .before .before .args in
-    search (needs, stands-fits (opText AskAbort) (a .s .now) (a .at) (omega arith) (sym (c .before .stands-at4 .ensures) ∙ c .if4 .taken))
+returns-3 c = letter-here _ _ _ (c .before .before .if2 .left) (c .match .keys1)
 
 returns-4 : tie.Need-returns-4
-unfolding kindAt
-returns-4 c =
-    let commit = c .before .before .before in
-    let store = commit .before .before .before in
-    let load = store .before .before .before in
-    rw (
-      ← load .before .stands-at .ensures,
-      load .if1 .left,
-      ← store .before .stands-at2 .ensures,
-      store .if2 .left,
-      ← commit .before .stands-at3 .ensures,
-      commit .if3 .left,
-      ← c .before .stands-at4 .ensures,
-      c .if4 .taken,
-    )
-
-slice-aggregate-stands-at-5 : tie.Need-slice-aggregate-stands-at-5
-slice-aggregate-stands-at-5 c = search needs
-
-stands-at-requires-5 : tie.Need-stands-at-requires-5
-stands-at-requires-5 c κs = search needs
-
-add-t33 : tie.Need-add-t33
-add-t33 c =
-    let a = c .before .before .before .before .before .before .before .before .before .before .before .before .before .before .before .before .args in
-    search (needs, stands-fits (opText AskReset) (a .s .now) (a .at) (omega arith) (sym (c .before .stands-at5 .ensures) ∙ c .if5 .taken))
+returns-4 c = letter-here _ _ _ (c .before .before .if2 .left) (c .match .keys2)
 
 returns-5 : tie.Need-returns-5
-unfolding kindAt
-returns-5 c =
-    let abort = c .before .before .before in
-    let commit = abort .before .before .before in
-    let store = commit .before .before .before in
-    let load = store .before .before .before in
-    rw (
-      ← load .before .stands-at .ensures,
-      load .if1 .left,
-      ← store .before .stands-at2 .ensures,
-      store .if2 .left,
-      ← commit .before .stands-at3 .ensures,
-      commit .if3 .left,
-      ← abort .before .stands-at4 .ensures,
-      abort .if4 .left,
-      ← c .before .stands-at5 .ensures,
-      c .if5 .taken,
-    )
-
-slice-aggregate-stands-at-6 : tie.Need-slice-aggregate-stands-at-6
-slice-aggregate-stands-at-6 c = search needs
-
-stands-at-requires-6 : tie.Need-stands-at-requires-6
-stands-at-requires-6 c κs = search needs
-
-add-t38 : tie.Need-add-t38
-add-t38 c =
-    let a = c .before .before .before .before .before .before .before .before .before .before .before .before .before .before .before .before .before .before .before .args in
-    search (needs, stands-fits (opText AskEvict) (a .s .now) (a .at) (omega arith) (sym (c .before .stands-at6 .ensures) ∙ c .if6 .taken))
+returns-5 c = letter-here _ _ _ (c .before .before .if2 .left) (c .match .keys3)
 
 returns-6 : tie.Need-returns-6
-unfolding kindAt
-returns-6 c =
-    let reset = c .before .before .before in
-    let abort = reset .before .before .before in
-    let commit = abort .before .before .before in
-    let store = commit .before .before .before in
-    let load = store .before .before .before in
-    rw (
-      ← load .before .stands-at .ensures,
-      load .if1 .left,
-      ← store .before .stands-at2 .ensures,
-      store .if2 .left,
-      ← commit .before .stands-at3 .ensures,
-      commit .if3 .left,
-      ← abort .before .stands-at4 .ensures,
-      abort .if4 .left,
-      ← reset .before .stands-at5 .ensures,
-      reset .if5 .left,
-      ←
-          c .before .stands-at6 .ensures,
-      c .if6 .taken,
-    )
+returns-6 c = letter-here _ _ _ (c .before .before .if2 .left) (c .match .keys4)
 
 returns-7 : tie.Need-returns-7
-unfolding kindAt
-returns-7 c =
-    let reset = c .before .before .before in
-    let abort = reset .before .before .before in
-    let commit = abort .before .before .before in
-    let store = commit .before .before .before in
-    let load = store .before .before .before in
-    rw (
-      ← load .before .stands-at .ensures,
-      load .if1 .left,
-      ← store .before .stands-at2 .ensures,
-      store .if2 .left,
-      ← commit .before .stands-at3 .ensures,
-      commit .if3 .left,
-      ← abort .before .stands-at4 .ensures,
-      abort .if4 .left,
-      ← reset .before .stands-at5 .ensures,
-      reset .if5 .left,
-      ←
-          c .before .stands-at6 .ensures,
-      c .if6 .left,
-    )
+returns-7 c = letter-here _ _ _ (c .before .before .if2 .left) (c .match .keys5)
+
+returns-8 : tie.Need-returns-8
+returns-8 c =
+    let a = c .before .before .before .before .args in
+    let b = getD (a .s .now) (a .at + 3) 0 in
+    let r = c .match .rest in
+    rw (ne-eqb b 115 (r .0 .0 .0 .0 .1), ne-eqb b 99 (r .0 .0 .0 .1), ne-eqb b 97 (r .0 .0 .1), ne-eqb b 114 (r .0 .1), ne-eqb b 101 (r .1))
+    at (letter-here (a .s .now) (a .at) b (c .before .before .if2 .left) refl)
 
 pub kind-at-spec : {M : Type 1} → statement M
 kind-at-spec =
     tie.close
     (tie.spec
-    slice-aggregate-stands-at
-    stands-at-requires
-    add-t13
     returns
-    slice-aggregate-stands-at-2
-    stands-at-requires-2
-    add-t18
+    sub-if2
     returns-2
-    slice-aggregate-stands-at-3
-    stands-at-requires-3
-    add-t23
+    add-letter
+    shared-slice-read-letter
     returns-3
-    slice-aggregate-stands-at-4
-    stands-at-requires-4
-    add-t28
     returns-4
-    slice-aggregate-stands-at-5
-    stands-at-requires-5
-    add-t33
     returns-5
-    slice-aggregate-stands-at-6
-    stands-at-requires-6
-    add-t38
     returns-6
-    returns-7)
+    returns-7
+    returns-8)
