@@ -1,17 +1,18 @@
 -- The place after a number, or where something is wrong, lies between where reading began and the end of the text.
 -- Assumes nothing.
-use mathlib.Core.Path.{_≡_}
-use mathlib.Core.Bool.{Bool, true, false, cond, not, false≢true}
-use mathlib.Core.List.{List, [], _∷_}
-use Prim.Native.Nat.{ℕ, suc, _+_, _-_, _*_, _^_, _≤_, _<_}
+use mathlib.Core.Path.{_≡_, ap}
+use mathlib.Core.Bool.{Bool, true, false, cond, false≢true}
+use mathlib.Core.List.{List, [], _∷_, _++_}
+use Prim.Native.Nat.{ℕ, _+_, _≤_, _<_}
 use native.Mathlib.Omega.{arith}
-use lib.Dec.{ltb, eqb}
-use lib.ListN.{length, drop, length-drop}
-use Rattle.rules.specs.declared.Fault.the-variants.{BadNumber, NumberTooLarge, KeyNotZero}
+use lib.Dec.{eqb}
+use lib.ListN.{length, drop, length-drop, length-append}
+use Rattle.rules.specs.Text.{decimal}
 use Rattle.trace.specs.declared.numbers.Parsed.{Parsed}
-use Rattle.trace.specs.declared.numbers.Parsed.the-variants.{Number, Wrong}
-use Rattle.trace.specs.Numbers.{isDigit, keyFault, digitsFrom, afterZero, numberIn, numberAt, fieldAt, agreeing, placeOf, startsLf}
+use Rattle.trace.specs.declared.numbers.Parsed.the-variants.{Wrong}
+use Rattle.trace.specs.Numbers.{keyFault, numberIn, numberAt, fieldAt, agreeing, placeOf, startsLf}
 use Rattle.trace.proofs.Keys.{agreeing-left}
+use Rattle.trace.proofs.lines.Decimal.{NumberReading, number-reading}
 
 -- a place from i up to e
 pub record Within (i e place : ℕ) : Type 0 where
@@ -23,36 +24,17 @@ either : (i e : ℕ) (b : Bool) (p q : Parsed) → Within i e (placeOf p) → Wi
 either i e true p q f g = f
 either i e false p q f g = g
 
--- no byte is read
-stays : (i n : ℕ) → Within i (i + n) i
-stays i n = record { from = omega arith; to = omega arith }
-
--- one byte is read, and n are left
-one-on : (i n place : ℕ) → Within (i + 1) (i + 1 + n) place → Within i (i + suc n) place
-one-on i n place w = record { from = omega (arith, w .from); to = omega (arith, w .to) }
-
-digits-within : (v i : ℕ) (t : List ℕ) → Within i (i + length t) (placeOf (digitsFrom v i t))
-unfolding digitsFrom
-digits-within v i [] = stays i 0
-digits-within v i (b ∷ t) =
-    let n = v * 10 + (b - 48) in
-    let e = i + length (b ∷ t) in
-    let here = stays i (length (b ∷ t)) in
-    either i e (not (isDigit b)) (Number v i) _ here
-    (either i e (ltb n (2 ^ 64)) (digitsFrom n (i + 1) t) (Wrong NumberTooLarge i) (one-on i (length t) _ (digits-within n (i + 1) t)) here)
-
-zero-within : (i : ℕ) (t : List ℕ) → Within i (i + length t) (placeOf (afterZero i t))
-zero-within i [] = stays i 0
-zero-within i (b ∷ t) = let here = stays i (length (b ∷ t)) in either i _ (isDigit b) (Wrong BadNumber i) (Number 0 i) here here
-
+-- a number's digits, whole or not, are bytes of the text
 in-within : (used : Bool) (i : ℕ) (t : List ℕ) → Within i (i + length t) (placeOf (numberIn used i t))
-in-within used i [] = stays i 0
-in-within used i (b ∷ t) =
-    let e = i + length (b ∷ t) in
-    let here = stays i (length (b ∷ t)) in
-    either i e (not (isDigit b)) (Wrong BadNumber i) _ here
-    (either i e (eqb b 48) (afterZero (i + 1) t) _ (one-on i (length t) _ (zero-within (i + 1) t))
-    (either i e used (digitsFrom 0 i (b ∷ t)) (Wrong KeyNotZero i) (digits-within 0 i (b ∷ t)) here))
+in-within used i t = go (number-reading used i t)
+  where
+    behind : (v : ℕ) (rest : List ℕ) → t ≡ decimal v ++ rest → Within i (i + length t) (i + length (decimal v))
+    behind v rest e = record { from = omega arith; to = omega (arith, ap length e, length-append (decimal v) rest) }
+
+    go : NumberReading used i t (numberIn used i t) → Within i (i + length t) (placeOf (numberIn used i t))
+    go (NumberReading.whole n rest text fit ends is) = rw is (behind n rest text)
+    go (NumberReading.none f off is) = rw is (record { from = omega arith; to = omega arith })
+    go (NumberReading.broken v b rest f text fit digit many is) = rw is (behind v (b ∷ rest) text)
 
 module _ (used : Bool) (s : List ℕ) where
   number-within : (at : ℕ) → at ≤ length s → Within at (length s) (placeOf (numberAt used s at))
