@@ -1,11 +1,11 @@
 -- What the language keeps of a machine's arrays: four caches of sixteen lines, and 64 words.
 -- Assumes nothing.
-use mathlib.Core.Path.{◌≡◌, sym, ◌∙◌}
-use mathlib.Core.List.{List, [], ◌∷◌, map}
+use mathlib.Core.Path.{◌≡◌}
+use mathlib.Core.List.{List, [], ◌∷◌}
 use Prim.Native.Nat.{ℕ, zero, suc, ◌<◌, ◌≤◌}
 use native.Mathlib.Nat.{le_of_suc-le-suc, not-suc-le-zero}
 use native.Mathlib.Omega.{arith}
-use lib.ListN.{length, get_or, length-map, get_or-eq_default}
+use lib.ListN.{length, get_or, get_or-eq_default}
 use mir.Val.{Val}
 use denote.Laws.{Is}
 use denote.Shadow.{shadow}
@@ -18,15 +18,15 @@ use Rattle.rules.specs.contracts.Cache as C
 use Rattle.rules.specs.contracts.Machine as X
 
 pub lines_16 : (k : Cache) (vs : List Val) → Is (row C.the_type) k vs → length k.lines ≡ 16
-lines_16 k vs p = sym (length-map k.lines _) ∙ p.1.1.0.1.0.1
+lines_16 k vs p = p.1.1.0.1.0.1
 
 caches_4 : (μ : Machine) (vs : List Val) → Is (row X.the_type) μ vs → length μ.caches ≡ 4
-caches_4 μ vs p = sym (length-map μ.caches _) ∙ p.1.1.0.1.0.1
+caches_4 μ vs p = p.1.1.0.1.0.1
 
 memory_64 : (μ : Machine) (vs : List Val) → Is (row X.the_type) μ vs → length μ.memory ≡ 64
-memory_64 μ vs p = sym (length-map μ.memory _) ∙ p.1.1.1.1.1.0.1.0.1
+memory_64 μ vs p = p.1.1.1.1.1.0.1.0.1
 
-all_16 : (ks : List Cache) (us : List Val) → shadow (each _ (C.the_field).row.own_val (map (C.the_field).into ks) us) → (c : ℕ) → c < length ks → length (get_or ks c no_cache).lines ≡ 16
+all_16 : (ks : List Cache) (us : List Val) → shadow (each (C.the_row).Denot (C.the_row).own_val ks us) → (c : ℕ) → c < length ks → length (get_or ks c no_cache).lines ≡ 16
 all_16 [] us p c h = absurd (not-suc-le-zero h)
 all_16 (k ∷ ks) [] p c h = absurd p
 all_16 (k ∷ ks) (u ∷ us) p zero h = lines_16 k _ p.0

@@ -2,11 +2,13 @@
 //
 // Document 01's rules over these types are the definitions in specs/, a file a heading; the laws about them are in proofs/.
 // The two functions here are proved, and the crate assumes nothing.
+#![tactic(auto)]
+
 ghost use Rattle.std.specs.Prelude.{◌≡◌};
 ghost use Rattle.rules.specs.Answer.{number_of, letter_of};
 
 // I; plain M, O, E, S; speculative S-M, S-O, S-E, S-S.
-#[derive(Drop)]
+#[derive(Clone, Copy)]
 pub enum State {
     I,
     M,
@@ -20,7 +22,7 @@ pub enum State {
 }
 
 // One slot: a state, an address, a modified VID m, a high VID h and a word.
-#[derive(Drop)]
+#[derive(Clone, Copy)]
 pub struct Line {
     pub state: State,
     pub address: u16,
@@ -29,13 +31,13 @@ pub struct Line {
     pub word: u64,
 }
 
-#[derive(Drop)]
+#[derive(Clone, Copy)]
 pub struct Cache {
     pub lines: [Line; 16],
 }
 
 // `count` of the four caches are in use; `lcvid` is the last committed VID.
-#[derive(Drop)]
+#[derive(Clone, Copy)]
 pub struct Machine {
     pub caches: [Cache; 4],
     pub count: usize,
@@ -44,28 +46,28 @@ pub struct Machine {
 }
 
 // Where a line stands.
-#[derive(Drop)]
+#[derive(Clone, Copy)]
 pub struct Pos {
     pub cache: usize,
     pub slot: usize,
 }
 
 // What a search over all lines finds.
-#[derive(Drop)]
+#[derive(Clone, Copy)]
 pub enum Found {
     At(Pos),
     Nowhere,
 }
 
 // The lowest free slot of a cache.
-#[derive(Drop)]
+#[derive(Clone, Copy)]
 pub enum Room {
     Slot(usize),
     Full,
 }
 
 // The six steps. `at` is an address, `data` the word to store.
-#[derive(Drop)]
+#[derive(Clone, Copy)]
 pub enum Op {
     Load {
         cache: usize,
@@ -90,7 +92,7 @@ pub enum Op {
 }
 
 // What is wrong with an unreadable line, in the order of request 2026-01's list: `letter` gives the letter behind the 12.
-#[derive(Drop)]
+#[derive(Clone, Copy)]
 pub enum Fault {
     WrongKey,
     BadNumber,
@@ -100,7 +102,7 @@ pub enum Fault {
 }
 
 // Why a call is refused, in the order of document 01's table: `number` gives the number there. A line that is unreadable is so from a column on, which has 32 bits: with 64 every answer would be half as long again.
-#[derive(Drop)]
+#[derive(Clone, Copy)]
 pub enum Reason {
     CacheCount,
     NotSound,
@@ -118,7 +120,7 @@ pub enum Reason {
     TextTooLong,
 }
 
-#[derive(Drop)]
+#[derive(Clone, Copy)]
 pub enum Answer {
     Value(u64),
     Done,
@@ -128,7 +130,7 @@ pub enum Answer {
 }
 
 // A refusal carries its number and no value; the machine stands beside the answer.
-#[derive(Drop)]
+#[derive(Clone, Copy)]
 pub struct Answered {
     pub answer: Answer,
     pub machine: Machine,

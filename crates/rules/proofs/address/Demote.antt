@@ -21,10 +21,10 @@ use Rattle.rules.proofs.address.Sound.{Stand, There, IsO, Meets, GoodAt, Sees, f
 use Rattle.rules.proofs.address.Owners.{plain_all, plain_alone}
 
 demote_i : (s : State) → is_i (demote s) ≡ is_i s
-demote_i s = elim s [ I ↦ refl | M ↦ refl | O ↦ refl | E ↦ refl | S ↦ refl | SM ↦ refl | SO ↦ refl | SE ↦ refl | SS ↦ refl ]
+demote_i s = elim s as (λ (s : State). is_i (demote s) ≡ is_i s) [ I ↦ refl | M ↦ refl | O ↦ refl | E ↦ refl | S ↦ refl | SM ↦ refl | SO ↦ refl | SE ↦ refl | SS ↦ refl ]
 
 demote_ranged : (s : State) → ranged (demote s) ≡ ranged s
-demote_ranged s = elim s [ I ↦ refl | M ↦ refl | O ↦ refl | E ↦ refl | S ↦ refl | SM ↦ refl | SO ↦ refl | SE ↦ refl | SS ↦ refl ]
+demote_ranged s = elim s as (λ (s : State). ranged (demote s) ≡ ranged s) [ I ↦ refl | M ↦ refl | O ↦ refl | E ↦ refl | S ↦ refl | SM ↦ refl | SO ↦ refl | SE ↦ refl | SS ↦ refl ]
 
 abbrev pub demoted : Line → Line
 demoted l = line (demote l.state) l.address l.m l.h l.word

@@ -32,7 +32,7 @@ number = elim [ I ↦ 0 | M ↦ 1 | O ↦ 2 | E ↦ 3 | S ↦ 4 | SM ↦ 5 | SO 
 
 number_small : (s : State) → number s < 9
 number_small s =
-    elim s [
+    elim s as (λ (s : State). number s < 9) [
       | I ↦ omega arith
       | M ↦ omega arith
       | O ↦ omega arith
@@ -46,7 +46,7 @@ number_small s =
     ]
 
 at_number : (s : State) → get_or states (number s) I ≡ s
-at_number s = elim s [ I ↦ refl | M ↦ refl | O ↦ refl | E ↦ refl | S ↦ refl | SM ↦ refl | SO ↦ refl | SE ↦ refl | SS ↦ refl ]
+at_number s = elim s as (λ (s : State). get_or states (number s) I ≡ s) [ I ↦ refl | M ↦ refl | O ↦ refl | E ↦ refl | S ↦ refl | SM ↦ refl | SO ↦ refl | SE ↦ refl | SS ↦ refl ]
 
 every_at : (f : State → Bool) (l : List State) → every f l ≡ true → (n : ℕ) → n < length l → f (get_or l n I) ≡ true
 every_at f [] h n q = absurd (not-suc-le-zero q)

@@ -22,10 +22,12 @@ module _ (μ : Machine) where
   join_grows b e (p ∷ ps) r (i, j) = omega (arith, r p (inl refl), join_grows (at μ p).h e ps (λ q a. r q (inr a)) j)
 
   pub join_within : (b e : ℕ) (ps : List Pos) → Rise ps → Join μ b ps e → (p : Pos) → Among p ps → (b ≤ (at μ p).m) × ((at μ p).h ≤ e)
+  join_within b e [] r j p a = elim a [ ]
   join_within b e (t ∷ ps) r (i, j) p (inl a) = rw a (omega (arith, join_grows (at μ t).h e ps (λ q a. r q (inr a)) j))
   join_within b e (t ∷ ps) r (i, j) p (inr a) = omega (arith, r t (inl refl), join_within (at μ t).h e ps (λ q a. r q (inr a)) j p a)
 
   pub join_apart : (b e : ℕ) (ps : List Pos) → Rise ps → Join μ b ps e → (p q : Pos) → p ≢ q → Among p ps → Among q ps → ((at μ p).h ≤ (at μ q).m) ⊎ ((at μ q).h ≤ (at μ p).m)
+  join_apart b e [] r j p q n a c = elim a [ ]
   join_apart b e (t ∷ ps) r (i, j) p q n (inl a) (inl c) = absurd (n (a ∙ sym c))
   join_apart b e (t ∷ ps) r (i, j) p q n (inl a) (inr c) = inl (rw a (join_within (at μ t).h e ps (λ q a. r q (inr a)) j q c).0)
   join_apart b e (t ∷ ps) r (i, j) p q n (inr a) (inl c) = inr (rw c (join_within (at μ t).h e ps (λ q a. r q (inr a)) j p a).0)
@@ -44,6 +46,7 @@ module _ (μ : Machine) where
   begins_more t ps e b (inr i) = inr i
 
   pub join_next : (b e : ℕ) (ps : List Pos) → Join μ b ps e → (p : Pos) → Among p ps → Begins ps e (at μ p).h
+  join_next b e [] j p a = elim a [ ]
   join_next b e (t ∷ ps) (i, j) p (inl a) = rw a (begins_more t ps e (at μ t).h (join_first (at μ t).h e ps j))
   join_next b e (t ∷ ps) (i, j) p (inr a) = begins_more t ps e (at μ p).h (join_next (at μ t).h e ps j p a)
 

@@ -125,7 +125,7 @@ module _ {N : ℕ} {μ : Machine} (s : Sound N μ) (c a x e : ℕ) (q : Pos) (in
     where
       same : (t : State) → plain t ≡ false → demote t ≡ t
       same t =
-          elim t [
+          elim t as (λ (t : State). plain t ≡ false → demote t ≡ t) [
             | I ↦ λ h. refl
             | M ↦ λ h. absurd (true≢false h)
             | O ↦ λ h. refl
