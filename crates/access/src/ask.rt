@@ -7,7 +7,7 @@ use crate::look::{Seen, look};
 use rules::{Machine, Reason};
 
 // Whether it is not plain, the number that it acts with, the address, and what the look and memory tell of that.
-#[derive(Drop)]
+#[derive(Clone, Copy)]
 pub struct Asked {
     pub vid: bool,
     pub a: u16,
@@ -17,7 +17,7 @@ pub struct Asked {
 }
 
 // It goes on, or is refused under 2 to 7.
-#[derive(Drop)]
+#[derive(Clone, Copy)]
 pub enum Asking {
     Goes(Asked),
     Barred(Reason),

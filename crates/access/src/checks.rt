@@ -6,7 +6,7 @@ ghost use Rattle.access.specs.Checks.{judged};
 use rules::Reason;
 
 // A refusal under 2 (LCVID is no VID), 3, 4, 6 or 7, or none.
-#[derive(Drop)]
+#[derive(Clone, Copy)]
 pub enum Verdict {
     Pass,
     Refuse(Reason),

@@ -3,6 +3,8 @@
 // A load or store that passes the checks looks once over all lines (`ask`), plans what to do from what it saw, and carries the plan out.
 // Every function here is proved. The two public ones have no `requires`, and give what the step without the test of the house rules gives, on every machine.
 // The crate assumes nothing.
+#![tactic(auto)]
+
 mod ask;
 mod checks;
 mod loads;

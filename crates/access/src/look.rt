@@ -6,14 +6,14 @@ use lines::{can_own, hits, is_dirty, is_plain, is_ss};
 use rules::{Cache, Line, Machine, Pos};
 
 // A line and where it stands, or none.
-#[derive(Drop)]
+#[derive(Clone, Copy)]
 pub enum Held {
     Here(Pos, Line),
     Nothing,
 }
 
 // The first line of each kind: the owner, an S-S of the asker that hits, a plain line of the asker, a plain line; and whether there is an M or O.
-#[derive(Drop)]
+#[derive(Clone, Copy)]
 pub struct Seen {
     pub owner: Held,
     pub share: Held,

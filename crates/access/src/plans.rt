@@ -7,7 +7,7 @@ use moves::{Change, change_in, place, place_two, stays};
 use rules::{Answer, Answered, Line, Machine};
 
 // The lines that the asker places.
-#[derive(Drop)]
+#[derive(Clone, Copy)]
 pub enum Places {
     None,
     One(Line),
@@ -15,7 +15,7 @@ pub enum Places {
 }
 
 // A line is put in its slot, then all lines change, then the asker places, which may be refused.
-#[derive(Drop)]
+#[derive(Clone, Copy)]
 pub struct Plan {
     pub answer: Answer,
     pub put: Held,

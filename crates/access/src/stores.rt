@@ -21,7 +21,7 @@ use moves::{Change, change};
 use rules::{Answer, Answered, Line, Machine, Pos, State};
 
 // What the search for the owner tells a store.
-#[derive(Drop)]
+#[derive(Clone, Copy)]
 pub enum Search {
     // The store goes on: from the owner that was found, or from none.
     Clear(Held),

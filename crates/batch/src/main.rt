@@ -2,6 +2,8 @@
 //
 // Standard input is a series of frames: a letter, `r` for the report or `m` for the report with the machine shown; the length of the text in decimal; an LF; and the text.
 // For each, standard output has what the programs `hmtx` and `hmtx_machine` write for that text, and then a line `end`. The run ends with the input, and at what is no frame.
+#![tactic(auto)]
+
 mod frames;
 
 use frames::{Byte, Length, next_byte, read_length, read_part, skip};

@@ -1,4 +1,6 @@
 // Cases on real machines, each printing what its steps answer; that is held to the file stdout.
+#![tactic(auto)]
+
 mod edges;
 mod house;
 mod play;

@@ -1,6 +1,8 @@
 // The program: plays the trace on standard input, and writes its report on standard output.
 //
 // One byte more than a trace may have is enough to tell that a text is too long. The report of every text fits into 131,072 bytes: `report_fits`, in the crate `play`.
+#![tactic(auto)]
+
 fn main() {
     let mut text = [0u8; 65537];
     let got = io::read_full(0, &mut text);

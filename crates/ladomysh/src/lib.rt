@@ -1,6 +1,8 @@
 // The player for programs in C and Rust: `rt staticlib ladomysh` writes an archive whose one symbol is `ladomysh_play`. examples/ladomysh.h declares it.
 //
 // A slice is a pointer and a length there, and `Played` a struct of C's. The contract is that of `play::play`; what a caller in another language owes, nothing checks: docs/GUIDE.md says it.
+#![tactic(auto)]
+
 ghost use Rattle.play.specs.Play.{report_of};
 ghost use Rattle.play.specs.Buffer.{Plays};
 

@@ -1,6 +1,8 @@
 // An empty line, and tests of states and lines: the classes that document 01 speaks of, dead, live, and what a line hits.
 //
 // Every function here is proved to give what its definition in `rules` says, has no `requires`, and the crate assumes nothing.
+#![tactic(auto)]
+
 ghost use Rattle.std.specs.Prelude.{◌≡◌};
 ghost use Rattle.rules.specs.States.{is_i, is_sm, is_so, is_ss, plain, spec, ranged, top, owns, dirty};
 ghost use Rattle.rules.specs.Line.{empty, dead, live, hits, is_share};
@@ -191,6 +193,7 @@ pub fn empty_line() -> Line
 }
 
 // Dead: an S-O or S-S line with h up to LCVID.
+#[tactic(auto, unfolding(rules::specs::Line::dead))]
 pub fn is_dead(lcvid: u16, l: Line) -> bool
     ensures { result ≡ dead lcvid l }
 {
@@ -200,6 +203,7 @@ pub fn is_dead(lcvid: u16, l: Line) -> bool
 }
 
 // Live: every other line that isn't I.
+#[tactic(auto, unfolding(rules::specs::Line::live))]
 pub fn is_live(lcvid: u16, l: Line) -> bool
     ensures { result ≡ live lcvid l }
 {
@@ -210,6 +214,7 @@ pub fn is_live(lcvid: u16, l: Line) -> bool
 }
 
 // S-M and S-E hit if a is at least m; S-O and S-S if a is also below h.
+#[tactic(auto, unfolding(rules::specs::Line::hits))]
 pub fn hits(a: u16, l: Line) -> bool
     ensures { result ≡ hits a l }
 {
@@ -220,6 +225,7 @@ pub fn hits(a: u16, l: Line) -> bool
 }
 
 // An S-S line of address x with that m.
+#[tactic(auto, unfolding(rules::specs::Line::is_share))]
 pub fn is_share(x: u16, m: u16, l: Line) -> bool
     ensures { result ≡ is_share x m l }
 {

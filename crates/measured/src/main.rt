@@ -3,6 +3,8 @@
 // Standard input has a letter, `r` for the rule or `s` for the check; a digit, how many times; an LF; and a trace of at most 2,048 steps. The steps are read once.
 // With `r` they are played that many times, each time from a fresh machine; with `s` once, and then the last machine is checked that many times.
 // Standard output has a report line whose data depends on all that was done: the loaded values, each xored in, or 1 where every check said that the machine is sound.
+#![tactic(auto)]
+
 use report::Wrote;
 use rules::{Answer, Answered, Machine, Op};
 use trace::{First, Read};

@@ -10,7 +10,7 @@ use lines::{can_own, empty_line, hits, is_ranged, is_share, is_spec, is_top};
 use rules::{Line, Pos, State};
 
 // `x` is an address, `m` a modified VID; `cache` is the asking one.
-#[derive(Drop)]
+#[derive(Clone, Copy)]
 pub enum Change {
     // All lines of the address drop.
     DropOf { x: u16 },

@@ -1,6 +1,8 @@
 // Moves over the machine: a line read and put, one change of all lines, refusing, and placing.
 //
 // Every function here is proved to give what its definition says, has no `requires`, and the crate assumes nothing.
+#![tactic(auto)]
+
 mod changes;
 
 ghost use Rattle.std.specs.Prelude.{◌≡◌};

@@ -2,6 +2,8 @@
 //
 // `play` is proved to write exactly the report that document 01 and request 2026-01 describe, for every text whatever its bytes; it has no `requires`, and the crate assumes nothing. The definition
 // plays the public step, which tests the house rules first; the code plays the rule without that test, since every machine that it comes to is sound.
+#![tactic(auto)]
+
 ghost use Rattle.std.specs.Prelude.{◌≡◌, ◌≤◌, length};
 ghost use Rattle.rules.specs.House.{House, Sized};
 ghost use Rattle.rules.specs.declared.Answer.TheVariants.{Refused};
@@ -17,7 +19,7 @@ use trace::{First, Read};
 
 // The place after the report, and whether it is whole: the first line that doesn't fit (13) ends it.
 #[repr(C)]
-#[derive(Drop)]
+#[derive(Clone, Copy)]
 pub struct Played {
     pub end: usize,
     pub whole: bool,

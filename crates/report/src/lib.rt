@@ -2,6 +2,8 @@
 //
 // The one public function is proved to write exactly the line that document 01 and request 2026-01 describe, or refuse with 13 and leave the whole buffer as it was; it has no `requires`, and the
 // crate assumes nothing.
+#![tactic(auto)]
+
 ghost use Rattle.std.specs.Prelude.{◌≡◌, ◌+◌, ◌≤◌, length};
 ghost use Rattle.rules.specs.Answer.{data_of};
 ghost use Rattle.rules.specs.Text.{last_digits};
@@ -11,7 +13,7 @@ ghost use Rattle.report.specs.Report.{letter_text, column_text, answer_text, end
 use rules::{Answer, Reason};
 
 // The place after the line, or the refusal.
-#[derive(Drop)]
+#[derive(Clone, Copy)]
 pub enum Wrote {
     Next(usize),
     Not(Reason),

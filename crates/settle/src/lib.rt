@@ -2,6 +2,8 @@
 //
 // Every function here is proved. The four public ones have no `requires`, and give what the step without the test of the house rules gives, on every machine.
 // The crate assumes nothing.
+#![tactic(auto)]
+
 ghost use Rattle.std.specs.Prelude.{◌≡◌, suc, eqb};
 ghost use Rattle.rules.specs.declared.Op.TheVariants.{Commit, Abort, Reset, Evict};
 ghost use Rattle.rules.specs.declared.Answer.TheVariants.{Done, Refused};

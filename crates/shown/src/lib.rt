@@ -4,6 +4,8 @@
 // then ` | mem`, and ` 5=10` for each memory word that isn't zero (address=word). A machine with no line shows ` | | mem`. A refused first line has no machine behind it.
 //
 // That this is safe and ends is proved. What is printed is tested and not promised: the functions have no contract.
+#![tactic(auto)]
+
 mod put;
 
 use put::{put_machine, put_text};

@@ -113,7 +113,7 @@ fn owns_it(lcvid: u16, p: Pos, k: Line, q: Pos, l: Line) -> bool
 
 // ---- what a live line sees of the live lines of its address
 
-#[derive(Drop)]
+#[derive(Clone, Copy)]
 pub(crate) struct Seen {
     // Every other one fits beside it.
     pub(crate) fits: bool,

@@ -1,6 +1,8 @@
 // The check of the house rules: whether a machine that is handed in is sound.
 //
 // `is_sound` is proved to give what `is_sound` of `rules` says, on any machine whatsoever, and the crate assumes nothing.
+#![tactic(auto)]
+
 mod fits;
 mod states;
 mod table;
@@ -15,7 +17,7 @@ use rules::{Line, Machine};
 
 // The 64 lines in one row, slot s of cache c at 16 c + s, and whether each fits by itself. The live lines of an address are chained: its lowest stands
 // at `first[address]`, and the next one after i at `next[i]`; 64 is none. All other lines are chained from `first[64]`, where nobody looks.
-#[derive(Drop)]
+#[derive(Clone, Copy)]
 struct Row {
     fits: bool,
     lines: [Line; 64],

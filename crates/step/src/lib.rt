@@ -2,6 +2,8 @@
 //
 // Every function here is proved to give what its definition in `rules` says, for every machine and every step handed in: none has a `requires`, and the machine that
 // a refused call hands back is in the contract too. The crate assumes nothing.
+#![tactic(auto)]
+
 ghost use Rattle.std.specs.Prelude.{◌≡◌};
 ghost use Rattle.rules.specs.Machine.{fresh, make_of};
 ghost use Rattle.rules.specs.Step.{rule_of, step_of};

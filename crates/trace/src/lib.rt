@@ -3,6 +3,8 @@
 // Each public function is proved to give what its definition says of every text, whatever its bytes; none has a `requires`, and the crate assumes nothing.
 // `reader` keeps a text and a place in it together. The borrow checker covers no function over such a struct, so those of `reader`, and `read_at`, which reads
 // through them, are proved by hand, each by a walk of its code. They leave the work to `step_at`, which takes a plain slice and a place and is covered, as all others are.
+#![tactic(auto)]
+
 mod numbers;
 pub mod reader;
 
@@ -15,14 +17,14 @@ use reader::{next, open};
 use rules::{Fault, Op};
 
 // The first line: how many caches, and the place after it; or what is wrong with it, and the column.
-#[derive(Drop)]
+#[derive(Clone, Copy)]
 pub enum First {
     Caches(u64, usize),
     Broken(Fault, usize),
 }
 
 // A step's line: the step and the place after it; or what is wrong with it, and the column; or the text ends here.
-#[derive(Drop)]
+#[derive(Clone, Copy)]
 pub enum Read {
     Step(Op, usize),
     Unreadable(Fault, usize),
@@ -30,7 +32,7 @@ pub enum Read {
 }
 
 // The six ops.
-#[derive(Drop)]
+#[derive(Clone, Copy)]
 pub enum Kind {
     AskLoad,
     AskStore,
@@ -41,7 +43,7 @@ pub enum Kind {
 }
 
 // Which keys an op uses.
-#[derive(Drop)]
+#[derive(Clone, Copy)]
 pub struct Uses {
     pub cache: bool,
     pub vid: bool,

@@ -5,7 +5,7 @@ ghost use Rattle.trace.specs.Numbers.{is_digit, agreeing, digits_from, number_at
 use rules::Fault;
 
 // A number and the place after its last digit; or what is wrong, and the place of the first byte that can't stand there.
-#[derive(Drop)]
+#[derive(Clone, Copy)]
 pub enum Parsed {
     Number(u64, usize),
     Wrong(Fault, usize),

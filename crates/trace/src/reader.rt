@@ -8,7 +8,7 @@ ghost use Rattle.trace.specs.Trace.{read_at};
 use super::{Read, step_at};
 
 // "The trace reader keeps the text and its place together."
-#[derive(Drop)]
+#[derive(Clone, Copy)]
 pub struct Reader<'a> {
     pub text: &'a [u8],
     pub at: usize,
