@@ -24,6 +24,7 @@ pub enum Asking {
 }
 
 // The checks, and then one look over all lines. The address and the VID are below 64 behind the checks, and fit.
+#[tactic(auto, using(crate::proofs::Verdicts::passed), unfolding(crate::specs::Ask::asked_of, rules::specs::Machine::memory_at))]
 pub fn ask(machine: Machine, cache: usize, vid: u64, at: u64) -> Asking
     ensures { result ≡ asked_of machine cache vid at }
 {

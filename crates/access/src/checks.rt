@@ -12,6 +12,7 @@ pub enum Verdict {
     Refuse(Reason),
 }
 
+#[tactic(auto, unfolding(crate::specs::Checks::judged))]
 pub fn judge(count: usize, lcvid: u16, cache: usize, vid: u64, at: u64) -> Verdict
     ensures { result ≡ judged count lcvid cache vid at }
 {

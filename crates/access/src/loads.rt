@@ -96,6 +96,7 @@ fn after_read(vid: bool, a: u16, o: Pos, l: Line) -> Held
 }
 
 // An owner in S-M or S-E takes the larger of h and a as its h.
+#[tactic(auto, unfolding(rules::specs::Load::read_by))]
 fn read_by(a: u16, l: Line) -> Line
     ensures { result ≡ read_by a l }
 {
@@ -122,6 +123,7 @@ fn larger(h: u16, a: u16) -> u16
 // ---- no speculative line lives, and the load has a VID
 
 // All lines of the address drop, and the asker places S-M (0, a) if one was M or O, else S-E (0, a).
+#[tactic(auto, unfolding(crate::specs::Plan::carried, rules::specs::Load::load_new, rules::specs::Data::read, rules::specs::Machine::drop))]
 fn load_first(dirty: bool, word: u64, a: u16, x: u16) -> Plan
     ensures { AnyCarries (λ c μ. (dirty ≡ is_dirty μ x) × (word ≡ plain_data μ x)) (λ c μ. load_new μ c a x 0) result }
 {

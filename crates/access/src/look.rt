@@ -38,6 +38,7 @@ fn keep(held: Held, passes: bool, p: Pos, l: Line) -> Held
 }
 
 // A line of the address that is looked for.
+#[tactic(auto, unfolding(crate::specs::Look::with_line, rules::specs::Line::is_owner, rules::specs::Line::is_plain, rules::specs::Load::is_own_share))]
 fn see(seen: Seen, cache: usize, a: u16, p: Pos, l: Line) -> Seen
     ensures { result ≡ with_line cache a l.address p l seen }
 {

@@ -30,6 +30,7 @@ pub enum Search {
 }
 
 // Owner S-O, or a below h in S-M or S-E.
+#[tactic(auto, unfolding(rules::specs::Store::misspeculates))]
 fn misspeculates(a: u16, owner: Line) -> bool
     ensures { result ≡ misspeculates a owner }
 {
@@ -52,6 +53,7 @@ pub fn search_owner(owner: Held, a: u16) -> Search
 }
 
 // Misspeculation: the machine aborts, and no line is placed.
+#[tactic(auto, unfolding(rules::specs::Abort::abort_of))]
 pub fn misspeculation(machine: Machine) -> Answered
     ensures { result ≡ gives Misspec (abort_of machine) }
 {
@@ -141,6 +143,7 @@ fn store_owned(a: u16, x: u16, word: u64, o: Pos, l: Line) -> Plan
 }
 
 // No speculative line lives: all lines of the address drop; the asker places S-O (0, a) with the old word, then S-M (a, a).
+#[tactic(auto, unfolding(crate::specs::Plan::carried, rules::specs::Store::store_new, rules::specs::Machine::drop))]
 fn store_new(a: u16, x: u16, was: u64, word: u64) -> Plan
     ensures { AnyCarries (λ c μ. was ≡ plain_data μ x) (λ c μ. store_new μ c a x word) result }
 {
@@ -161,6 +164,7 @@ fn store_new(a: u16, x: u16, was: u64, word: u64) -> Plan
 }
 
 // A plain store: all lines of the address drop, the asker places M.
+#[tactic(auto, unfolding(crate::specs::Plan::carried, rules::specs::Store::store_m, rules::specs::Machine::drop))]
 fn store_plain(x: u16, word: u64) -> Plan
     ensures { AnyCarries (λ c μ. Unit {0}) (λ c μ. store_m μ c x word) result }
 {
