@@ -12,6 +12,7 @@ use rules::{Line, Pos};
 // ---- one line
 
 // Empty slots are zero; plain lines have VIDs 0, 0; S-E has m = 0; S-M and S-E have m ≤ h ≤ 63 and h ≥ 1; S-O has m < h ≤ 63; S-S has m < h ≤ 64.
+#[tactic(auto, unfolding(rules::specs::HouseTest::line_fits, rules::specs::Data::same_data))]
 fn line_fits(l: Line) -> bool
     ensures { result ≡ line_fits 64 l }
 {
@@ -52,6 +53,7 @@ pub(crate) fn place(i: usize) -> Pos
 }
 
 // A live line's address, where that is below 64; 64 for every other line.
+#[tactic(auto, unfolding(crate::specs::Numbered::key_of))]
 pub(crate) fn key_of(lcvid: u16, l: Line) -> usize
     ensures { (result ≡ key_of lcvid l) × (result < 65) }
 {
@@ -66,6 +68,7 @@ pub(crate) fn key_of(lcvid: u16, l: Line) -> usize
 // ---- two live lines of one address, k at p and l at q
 
 // The ranges of two owners lie one behind the other.
+#[tactic(auto, unfolding(rules::specs::HouseTest::disjoint))]
 fn are_disjoint(k: Line, l: Line) -> bool
     ensures { result ≡ disjoint k l }
 {
@@ -77,6 +80,7 @@ fn are_disjoint(k: Line, l: Line) -> bool
 }
 
 // By the table; plain lines are in different caches and agree; ranges are disjoint; no cache holds two S-S with the same m.
+#[tactic(auto, unfolding(rules::specs::HouseTest::pair_fits, rules::specs::Data::same_data))]
 fn pair_fits(p: Pos, q: Pos, k: Line, l: Line) -> bool
     ensures { result ≡ pair_fits p q k l }
 {
@@ -98,6 +102,7 @@ fn pair_fits(p: Pos, q: Pos, k: Line, l: Line) -> bool
 
 // l is the owner line of the S-S k: in another cache, with its m and its word, and k's h is at most the larger of l's h and LCVID, plus 1; for an
 // S-O owner also at most l's h.
+#[tactic(auto, unfolding(rules::specs::HouseTest::owns_it, rules::specs::Data::same_data))]
 fn owns_it(lcvid: u16, p: Pos, k: Line, q: Pos, l: Line) -> bool
     requires { (lcvid < 64) × (l.h < 65) }
     ensures { result ≡ owns_it lcvid p k q l }
@@ -106,6 +111,7 @@ fn owns_it(lcvid: u16, p: Pos, k: Line, q: Pos, l: Line) -> bool
     let owns = can_own(state);
     let so = is_so(state);
     let away = !(q.cache == p.cache);
+    // At most one more than the larger is at most one more than either.
     let reach = (k.h <= l.h + 1) | (k.h <= lcvid + 1);
     let within = !so | (k.h <= l.h);
     owns & ((l.m == k.m) & (away & ((l.word == k.word) & (reach & within))))
@@ -140,6 +146,7 @@ pub(crate) const NOTHING: Seen = Seen {
 };
 
 // What k at p has seen, and l at q too.
+#[tactic(auto, unfolding(crate::specs::Numbered::seeing))]
 pub(crate) fn see(lcvid: u16, p: Pos, k: Line, q: Pos, l: Line, seen: Seen) -> Seen
     requires { (lcvid < 64) × (l.h < 65) }
     ensures { result ≡ seeing lcvid p k q l seen }
@@ -162,6 +169,7 @@ pub(crate) fn see(lcvid: u16, p: Pos, k: Line, q: Pos, l: Line, seen: Seen) -> S
 }
 
 // What k has seen, and whether it is the same as memory, is all that it needs.
+#[tactic(auto, unfolding(crate::specs::Numbered::met))]
 pub(crate) fn needs_met(k: Line, same: bool, seen: Seen) -> bool
     ensures { result ≡ met k same seen }
 {

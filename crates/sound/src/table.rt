@@ -36,6 +36,7 @@ fn row_of(s: State) -> usize
 }
 
 // The two may stand together.
+#[tactic(auto, using(crate::proofs::Entries::entry_stands))]
 pub(crate) fn may_stand(s: State, t: State) -> bool
     ensures { result ≡ stands s t }
 {
