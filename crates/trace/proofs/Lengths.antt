@@ -13,7 +13,7 @@ use Rattle.trace.specs.declared.First.TheVariants.{Caches, Broken}
 use Rattle.trace.specs.declared.Read.TheVariants.{Step, Unreadable}
 use Rattle.trace.specs.declared.Kind.{Kind}
 use Rattle.trace.specs.declared.Kind.TheVariants.{AskLoad, AskStore, AskCommit, AskAbort, AskReset, AskEvict}
-use Rattle.trace.specs.Trace.{op_text, column, first_of, read_at}
+use Rattle.trace.specs.Trace.{op_text, first_of, read_at}
 use Rattle.trace.specs.Columns.{GoodFirst, GoodStep, Breaks}
 use Rattle.trace.specs.Written.{first_text, written_line, step_text}
 use Rattle.trace.proofs.lines.Stands.{Stands}

@@ -1,8 +1,7 @@
 // Trace text: the first line, and the step that stands at a place; or what is wrong with the line, and from which column on.
 //
 // Each public function is proved to give what its definition says of every text, whatever its bytes; none has a `requires`, and the crate assumes nothing.
-// `reader` keeps a text and a place in it together. The borrow checker covers no function over such a struct, so those of `reader`, and `read_at`, which reads
-// through them, are proved by hand, each by a walk of its code. They leave the work to `step_at`, which takes a plain slice and a place and is covered, as all others are.
+// `reader` keeps a text and a place in it together, and leaves the work to `step_at`, which takes a plain slice and a place.
 #![tactic(auto)]
 
 mod numbers;
@@ -63,6 +62,7 @@ fn broken(last: Parsed) -> First
 }
 
 // `caches=N`.
+#[tactic(auto, using(crate::proofs::Places::field_place, crate::proofs::Places::field_number), unfolding(crate::specs::Trace::first_of, crate::specs::Trace::line_at))]
 pub fn first_line(s: &[u8]) -> First
     ensures { result ≡ first_of s.now }
 {
@@ -77,6 +77,7 @@ pub fn first_line(s: &[u8]) -> First
 }
 
 // The op by its first letter. Where there is none, or another than theirs, the line breaks there at the latest, whichever op is taken.
+#[tactic(auto, unfolding(crate::specs::Trace::kind_at))]
 fn kind_at(s: &[u8], at: usize) -> Kind
     ensures { result ≡ kind_at s.now at }
 {
@@ -186,6 +187,7 @@ fn unread(at: usize, last: Parsed) -> Read
 }
 
 // The work: the step that stands at a place of a slice.
+#[tactic(auto, using(crate::proofs::Places::field_place, crate::proofs::Places::field_number), unfolding(crate::specs::Trace::read_at, crate::specs::Trace::line_at))]
 fn step_at(s: &[u8], at: usize) -> Read
     ensures { result ≡ read_at s.now at }
 {
@@ -216,7 +218,7 @@ fn step_at(s: &[u8], at: usize) -> Read
     Read::Step(op_of(kind, cache, vid, x, data), e + 1)
 }
 
-// The step that stands at a place, read through a reader. A caller, whose slice is a plain one, needs no walk.
+// The step that stands at a place, read through a reader: for a caller that has a plain slice and a place.
 pub fn read_at(s: &[u8], at: usize) -> Read
     ensures { result ≡ read_at s.now at }
 {

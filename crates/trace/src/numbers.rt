@@ -28,6 +28,7 @@ pub fn lf_at(s: &[u8], at: usize) -> bool
 }
 
 // How many bytes of the key stand at a place of the text.
+#[tactic(auto, using(crate::proofs::Keys::agreeing_past), unfolding(crate::specs::Numbers::agreeing))]
 fn agreeing_at(key: &[u8], s: &[u8], at: usize) -> usize
     ensures { result ≡ agreeing key.now (drop at s.now) }
 {
@@ -49,6 +50,7 @@ fn agreeing_at(key: &[u8], s: &[u8], at: usize) -> usize
 }
 
 // The digits at a place, up to a byte that is none. A digit more than fits is told before it is added.
+#[tactic(auto, unfolding(crate::specs::Numbers::digits_from))]
 fn digits_from(s: &[u8], at: usize) -> Parsed
     ensures { result ≡ digits_from 0 at (drop at s.now) }
 {
@@ -70,6 +72,7 @@ fn digits_from(s: &[u8], at: usize) -> Parsed
 }
 
 // The number whose digits stand at a place: 0 alone, or, where the key is used, digits that don't begin with 0.
+#[tactic(auto, unfolding(crate::specs::Numbers::number_at))]
 fn number_at(used: bool, s: &[u8], at: usize) -> Parsed
     ensures { result ≡ number_at used s.now at }
 {
@@ -97,6 +100,7 @@ fn number_at(used: bool, s: &[u8], at: usize) -> Parsed
 }
 
 // A key at a place, and the number behind it.
+#[tactic(auto, using(crate::proofs::Keys::agreeing_left), unfolding(crate::specs::Numbers::field_at))]
 pub fn field_at(key: &[u8], used: bool, s: &[u8], at: usize) -> Parsed
     ensures { result ≡ field_at key.now used s.now at }
 {

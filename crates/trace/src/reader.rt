@@ -1,7 +1,6 @@
 // A reader: a text and a place in it, kept together, and thin functions over the two.
 //
-// The borrow checker covers no function over a struct that holds a reference, so each of these is proved by hand, by a walk of its code; none has a `requires`, and nothing is assumed.
-// `next` takes the reader apart and leaves the work to `step_at`, which takes a plain slice and a place, and is covered.
+// None has a `requires`, and nothing is assumed. `next` takes the reader apart and leaves the work to `step_at`, which takes a plain slice and a place.
 ghost use Rattle.std.specs.Prelude.{◌≡◌};
 ghost use Rattle.trace.specs.Trace.{read_at};
 
