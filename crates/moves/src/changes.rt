@@ -53,6 +53,7 @@ fn demoted_state(s: State) -> State
 }
 
 // A line of address x with its state demoted; another line stays.
+#[tactic(auto, unfolding(rules::specs::Load::demote_line))]
 fn demote_line(x: u16, l: Line) -> Line
     ensures { result ≡ demote_line x l }
 {
@@ -104,6 +105,7 @@ fn settle_line(l: Line) -> Line
 }
 
 // S-S lines drop; other speculative lines that LCVID hits settle, the rest drop; plain lines stay.
+#[tactic(auto, unfolding(rules::specs::Abort::abort_line))]
 fn abort_line(lcvid: u16, l: Line) -> Line
     ensures { result ≡ abort_line lcvid l }
 {
@@ -120,6 +122,7 @@ fn abort_line(lcvid: u16, l: Line) -> Line
 }
 
 // S-O and S-S drop; S-M and S-E settle; plain lines stay.
+#[tactic(auto, unfolding(rules::specs::Reset::reset_line))]
 fn reset_line(l: Line) -> Line
     ensures { result ≡ reset_line l }
 {
@@ -164,6 +167,7 @@ pub fn reaches(ch: Change, l: Line) -> bool
 }
 
 // What becomes of the line `l`, which stands at `p`.
+#[tactic(auto, unfolding(rules::specs::Load::is_of, rules::specs::Load::is_stale_share))]
 pub fn changed_line(ch: Change, p: Pos, l: Line) -> Line
     ensures { result ≡ changed ch p l }
 {

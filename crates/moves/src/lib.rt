@@ -19,6 +19,7 @@ use rules::{Answer, Answered, Cache, Line, Machine, Pos, Reason, Room};
 // ---- a line by its place
 
 // The line in a slot; past the end, an empty one.
+#[tactic(auto, unfolding(rules::specs::Machine::at))]
 pub fn line_at(machine: Machine, cache: usize, slot: usize) -> Line
     ensures { result ≡ at machine (pos cache slot) }
 {
@@ -33,6 +34,7 @@ pub fn line_at(machine: Machine, cache: usize, slot: usize) -> Line
 }
 
 // The machine with a line in a slot; past the end, the machine as it was.
+#[tactic(auto, unfolding(rules::specs::Machine::put))]
 pub fn put(machine: Machine, cache: usize, slot: usize, line: Line) -> Machine
     ensures { result ≡ put (pos cache slot) line machine }
 {

@@ -30,6 +30,7 @@ fn is_next(lcvid: u16, vid: u16) -> bool
 }
 
 // LCVID becomes the VID. Nothing else changes.
+#[tactic(auto, unfolding(rules::specs::Step::rule_of, rules::specs::Commit::commit_of, rules::specs::Machine::with_lcvid))]
 pub fn commit(machine: Machine, vid: u64) -> Answered
     ensures { result ≡ rule_of machine (Commit vid) }
 {
@@ -51,6 +52,7 @@ pub fn commit(machine: Machine, vid: u64) -> Answered
 // ---- abort
 
 // S-S lines drop; other speculative lines that LCVID hits become M or E, the rest drop; plain lines and LCVID stay.
+#[tactic(auto, unfolding(rules::specs::Abort::abort_of))]
 fn aborted(machine: Machine) -> Machine
     ensures { result ≡ abort_of machine }
 {
@@ -58,6 +60,7 @@ fn aborted(machine: Machine) -> Machine
     moves::change(machine, Change::Abort { lcvid })
 }
 
+#[tactic(auto, unfolding(rules::specs::Step::rule_of))]
 pub fn abort(machine: Machine) -> Answered
     ensures { result ≡ rule_of machine Abort }
 {
@@ -70,6 +73,7 @@ pub fn abort(machine: Machine) -> Answered
 // ---- reset
 
 // S-M becomes M, S-E becomes E, both with VIDs 0, 0; S-O and S-S drop; LCVID becomes 0 and a new flight begins.
+#[tactic(auto, unfolding(rules::specs::Reset::reset_of, rules::specs::Machine::with_lcvid))]
 fn new_flight(machine: Machine) -> Machine
     ensures { result ≡ reset_of machine }
 {
@@ -98,6 +102,7 @@ fn any_unsettled(machine: Machine) -> bool
 }
 
 // Refused where a line is not settled.
+#[tactic(auto, unfolding(rules::specs::Step::rule_of))]
 pub fn reset(machine: Machine) -> Answered
     ensures { result ≡ rule_of machine Reset }
 {
@@ -138,6 +143,7 @@ fn emptied(machine: Machine, cache: usize, slot: usize) -> Machine
 }
 
 // A line's word to memory. On a machine that is not sound its address may be past the end: nothing is written then.
+#[tactic(auto, unfolding(rules::specs::Machine::write))]
 fn written_back(machine: Machine, line: Line) -> Machine
     ensures { result ≡ write line.address line.word machine }
 {
@@ -150,6 +156,7 @@ fn written_back(machine: Machine, line: Line) -> Machine
 }
 
 // S-S lines with the line's m and address drop, and its slot is emptied.
+#[tactic(auto, unfolding(rules::specs::Evict::with_shares, rules::specs::Machine::drop))]
 fn with_shares(machine: Machine, cache: usize, slot: usize, line: Line) -> Machine
     requires { line ≡ at machine (pos cache slot) }
     ensures { result ≡ with_shares machine (pos cache slot) }
@@ -161,6 +168,7 @@ fn with_shares(machine: Machine, cache: usize, slot: usize, line: Line) -> Machi
 }
 
 // A settled S-M or S-E goes with its S-S lines. S-M writes its word to memory, S-E has none to write.
+#[tactic(auto, unfolding(rules::specs::Evict::settled_out))]
 fn settled_out(machine: Machine, cache: usize, slot: usize, line: Line) -> Machine
     requires { line ≡ at machine (pos cache slot) }
     ensures { result ≡ settled_out machine (pos cache slot) }
@@ -184,6 +192,7 @@ fn done(machine: Machine) -> Answered
 }
 
 // What an eviction does, by the line in the slot.
+#[tactic(auto, unfolding(rules::specs::Evict::evict_of))]
 fn evict_line(machine: Machine, cache: usize, slot: usize, line: Line) -> Answered
     requires { line ≡ at machine (pos cache slot) }
     ensures { result ≡ evict_of machine (pos cache slot) }
@@ -214,6 +223,7 @@ fn evict_line(machine: Machine, cache: usize, slot: usize, line: Line) -> Answer
 }
 
 // Refused where there is no such slot, or nothing in it.
+#[tactic(auto, unfolding(rules::specs::Step::rule_of))]
 pub fn evict(machine: Machine, cache: usize, slot: usize) -> Answered
     ensures { result ≡ rule_of machine (Evict cache slot) }
 {
