@@ -1,6 +1,6 @@
 -- Bytes stored one after the other, and one piece put after another.
 -- Assumes nothing.
-use mathlib.Core.Path.{◌≡◌, refl, ap, sym, ◌∙◌}
+use mathlib.Core.Path.{◌≡◌, ap, sym, ◌∙◌}
 use mathlib.Core.List.{List, [], ◌∷◌, ◌++◌}
 use Prim.Native.Nat.{ℕ, suc, ◌+◌, ◌≤◌, ◌<◌}
 use native.Mathlib.Numerals.{add-one}
@@ -14,22 +14,15 @@ pub sets_snoc : (l : List ℕ) (i : ℕ) (vs : List ℕ) (v : ℕ) → sets l i 
 sets_snoc l i [] v = rw add-zero
 sets_snoc l i (u ∷ vs) v = sets_snoc (set l i u) (suc i) vs v ∙ ap (λ (k : ℕ). set (sets (set l i u) (suc i) vs) k v) (suc-add i (length vs) ∙ sym (add-suc i (length vs)))
 
--- a turn of a loop that stores s from `at` on
-pub sets_turn : (l out : List ℕ) (at i : ℕ) (s : List ℕ) → i < length s → out ≡ sets l at (take i s) → set out (at + i) (get_or s i 0) ≡ sets l at (take (i + 1) s)
-sets_turn l out at i s h e =
+-- a turn of a loop that stores s from `at` on, at p
+pub sets_turn : (l out : List ℕ) (at i p : ℕ) (s : List ℕ) → p ≡ at + i → i < length s → out ≡ sets l at (take i s) → set out p (get_or s i 0) ≡ sets l at (take (i + 1) s)
+sets_turn l out at i p s q h e =
     let g : length (take i s) ≡ i = length-take-le i s (omega arith) in
-    rw (add-one i, take-suc s i 0 h, sets_snoc l at (take i s) (get_or s i 0), g, e)
+    rw (add-one i, take-suc s i 0 h, sets_snoc l at (take i s) (get_or s i 0), g, q, e)
 
 sets_append : (l : List ℕ) (i : ℕ) (vs ws : List ℕ) → sets (sets l i vs) (i + length vs) ws ≡ sets l i (vs ++ ws)
 sets_append l i [] ws = rw add-zero
 sets_append l i (u ∷ vs) ws = ap (λ (k : ℕ). sets (sets (set l i u) (suc i) vs) k ws) (add-suc i (length vs) ∙ sym (suc-add i (length vs))) ∙ sets_append (set l i u) (suc i) vs ws
-
--- nothing; and one byte
-pub put_none : (l : List ℕ) (at k : ℕ) → Put l at [] k at l
-put_none l at k = record { next = omega arith; within = omega arith; holds = refl }
-
-pub put_one : (l : List ℕ) (at b : ℕ) → Put l at (b ∷ []) 1 (at + 1) (set l at b)
-put_one l at b = record { next = omega arith; within = omega arith; holds = refl }
 
 -- the piece ws behind the piece bs
 pub put_then : (l : List ℕ) (at : ℕ) (bs ws : List ℕ) (j k p r : ℕ) (t u : List ℕ) → Put l at bs j p t → Put t p ws k r u → Put l at (bs ++ ws) (j + k) r u

@@ -37,6 +37,7 @@ fn put_digits(t: &mut [u8; 144], at: usize, n: u64, left: usize) -> usize
 }
 
 // A text, from `at` on; the place after it.
+#[tactic(auto, using(crate::proofs::Sets::sets_turn))]
 fn put_text(t: &mut [u8; 144], at: usize, s: &[u8]) -> usize
     requires { at + length s.now ≤ 144 }
     ensures { Put t.old at s.now (length s.now) result t.new }
@@ -135,6 +136,7 @@ fn make_line(t: &mut [u8; 144], step: u64, answer: Answer, lcvid: u64) -> usize
 }
 
 // The first n bytes of t into the buffer that is lent from the place on, and true; or false and no change where they do not fit.
+#[tactic(auto, using(crate::proofs::Sets::sets_turn))]
 fn copy_line(out: &mut [u8], t: &[u8], n: usize) -> bool
     requires { n ≤ length t.now }
     ensures { Copied n t.now out.old result out.new }

@@ -1,0 +1,33 @@
+-- A text that is too long, a first line that is unreadable, or one that is read.
+-- Assumes nothing.
+use Rattle.std.proofs.Common.{◌≡◌, List, ℕ, ◌≤◌, ◌<◌, length, sym, arith}
+use borrow.Author.Tests.{lt-ltb, le-ltb}
+use Rattle.rules.specs.declared.Reason.TheVariants.{TextTooLong}
+use Rattle.trace.specs.declared.First.{First}
+use Rattle.trace.specs.Trace.{first_of}
+use Rattle.trace.proofs.Lengths.{first_column}
+use Rattle.play.specs.Play.{longest, refused_first, on_first, report_of}
+use Rattle.play.proofs.Telling.{one_line}
+use Rattle.play.proofs.play.Goals as goal
+
+-- the report, by the text's length and its first line
+module _ (s : List ℕ) where
+  too_long : longest < length s → report_of s ≡ refused_first TextTooLong
+  unfolding report_of
+  too_long h = rw (lt-ltb longest (length s) h)
+
+  by_first : length s ≤ longest → {t : First} → t ≡ first_of s → report_of s ≡ on_first s t
+  unfolding report_of
+  by_first h e = rw (le-ltb longest (length s) h, ← e)
+
+pub returns-then-text-gt-LONGEST : goal.returns-then-text-gt-LONGEST
+returns-then-text-gt-LONGEST c = rw (too_long c.args.text.now (omega arith)) (one_line c.last_line.ensures)
+
+pub unreadable-requires : goal.unreadable-requires
+unreadable-requires c = omega (arith, first_column _ _ _ (sym c.in-Broken.ensures))
+
+pub returns-in-Caches : goal.returns-in-Caches
+returns-in-Caches c = rw (by_first c.args.text.now (omega arith) c.in-Caches.ensures) c.play_caches.ensures
+
+pub returns-in-Broken : goal.returns-in-Broken
+returns-in-Broken c = rw (by_first c.args.text.now (omega arith) c.in-Broken.ensures) (one_line (rw c.unreadable.ensures at c.last_line-in-Broken.ensures))
