@@ -13,6 +13,7 @@ use rules::{Answer, Answered, Cache, Machine, Op, Reason};
 
 // ---- a fresh machine
 
+#[tactic(auto, unfolding(rules::specs::Machine::fresh))]
 fn fresh(count: usize, memory: [u64; 64]) -> Machine
     ensures { result ≡ fresh count memory }
 {
@@ -29,6 +30,7 @@ fn fresh(count: usize, memory: [u64; 64]) -> Machine
 }
 
 // A fresh machine with the words given; where the caches are not 1 to 4, refusal 1, and a machine of one cache with zero memory.
+#[tactic(auto, unfolding(rules::specs::Machine::make_of))]
 pub fn make(count: usize, memory: [u64; 64]) -> Answered
     ensures { result ≡ make_of count memory }
 {
@@ -70,6 +72,7 @@ pub fn rule(machine: Machine, op: Op) -> Answered
 }
 
 // Refusal 2 where the machine is not sound, and else the rule.
+#[tactic(auto, unfolding(rules::specs::Step::step_of))]
 pub fn step(machine: Machine, op: Op) -> Answered
     ensures { result ≡ step_of machine op }
 {
