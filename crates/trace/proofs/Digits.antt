@@ -1,4 +1,4 @@
--- Which bytes are digits.
+-- The bytes that digits are: from 48 to 57.
 -- Assumes nothing.
 use mathlib.Core.Path.{◌≡◌}
 use mathlib.Core.Bool.{true}

@@ -100,7 +100,7 @@ fn number_at(used: bool, s: &[u8], at: usize) -> Parsed
 }
 
 // A key at a place, and the number behind it.
-#[tactic(auto, using(crate::proofs::Keys::agreeing_left), unfolding(crate::specs::Numbers::field_at))]
+#[tactic(auto, using(crate::proofs::Keys::agreeing_left, crate::proofs::Keys::broken_off), unfolding(crate::specs::Numbers::field_at))]
 pub fn field_at(key: &[u8], used: bool, s: &[u8], at: usize) -> Parsed
     ensures { result ≡ field_at key.now used s.now at }
 {
