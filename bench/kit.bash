@@ -1,10 +1,9 @@
 # Sourced by the scripts of this folder and by examples/check: where the kit is, and how a program is built and run with the kit's C library. It moves to the top of the repository.
 cd "$(dirname "$(readlink -f "${BASH_SOURCE[0]}")")/.."
 command -v rt >/dev/null || { echo "bench: the Rattle kit is not there: no 'rt' on the PATH" >&2; exit 2; }
-kit=$(dirname "$(dirname "$(readlink -f "$(command -v rt)")")")/on/$(uname -m)
+kit=$(dirname "$(dirname "$(readlink -f "$(command -v rt)")")")
 tools=$kit/toolchain
-emulator=$tools/bin/qemu-x86_64
-[ -x "$emulator" ] || emulator=
+emulator= # today's kit is for x86-64 alone, and has none
 loader=("$tools/lib/ld-linux-x86-64.so.2" --library-path "$tools/lib")
 
 # The C library copies and fills 2 KiB and more by `rep movsb` and `rep stosb`: one instruction to a processor, and one for each byte to the emulator and to valgrind.

@@ -6,7 +6,7 @@
 
 ghost use Rattle.std.specs.Prelude.{◌≡◌, suc, eqb};
 ghost use Rattle.rules.specs.declared.Op.TheVariants.{Commit, Abort, Reset, Evict};
-ghost use Rattle.rules.specs.declared.Answer.TheVariants.{Done, Refused};
+ghost use Rattle.rules.specs.declared.Answer.TheVariants.{Done};
 ghost use Rattle.rules.specs.Line.{empty};
 ghost use Rattle.rules.specs.Machine.{pos, at, put, write, gives};
 ghost use Rattle.rules.specs.Abort.{abort_of};
