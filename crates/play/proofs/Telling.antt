@@ -33,13 +33,13 @@ next false m n e = absurd (let z : ◌≡◌ {A = ℕ} 0 1 = cc in omega arith)
 
 module _ {line : List ℕ} {place : ℕ} {before after : List ℕ} where
   -- the line doesn't fit, and the buffer is as it was
-  not_written : {r : Reason} → Writes line place before (Not r) after → (fits line place before ≡ false) × (after ≡ before)
+  pub not_written : {r : Reason} → Writes line place before (Not r) after → (fits line place before ≡ false) × (after ≡ before)
   not_written {r} l =
       let f = refused _ _ r (sym l.answer) in
       (f, l.holds ∙ rw f)
 
   -- the line fits, and is laid
-  written : {last : ℕ} → Writes line place before (Next last) after → (fits line place before ≡ true) × ((last ≡ place + length line) × (after ≡ laid line place before))
+  pub written : {last : ℕ} → Writes line place before (Next last) after → (fits line place before ≡ true) × ((last ≡ place + length line) × (after ≡ laid line place before))
   written {last} l =
       let f = next _ _ last (sym l.answer) in
       (f.0, (f.1, l.holds ∙ rw f.0))
@@ -65,6 +65,9 @@ plays_as : {lines : List (List ℕ)} {before out after : List ℕ} {p r : Played
 plays_as h e w a = record { place = e ∙ h.place; whole = w ∙ h.whole; holds = a ∙ rw e h.holds; within = rw (a, e) h.within }
 
 module _ {lines : List (List ℕ)} {before : List ℕ} {end : ℕ} {out : List ℕ} {rest : List (List ℕ)} (t : Telling lines before end out rest) where
+  pub telling_as : {rest' : List (List ℕ)} → rest ≡ rest' → Telling lines before end out rest'
+  telling_as e = rw (← e) t
+
   pub telling_length : length out ≡ length before
   telling_length = ap length t.holds ∙ (length-append t.done (drop end before) ∙ omega (arith, t.place, t.room, length-drop end before))
 
@@ -147,3 +150,18 @@ module _ {lines : List (List ℕ)} {before : List ℕ} {end : ℕ} {out : List �
 -- a report of one line
 pub one_line : {line before : List ℕ} {r : Played} {after : List ℕ} → Ends line 0 before r after → Plays (line ∷ []) before r after
 one_line {line} {before} l = telling_last (telling_none (line ∷ []) before) refl l
+
+-- ---- lengths
+
+fitting_fits : (lines : List (List ℕ)) (room : ℕ) → length (joined (fitting room lines)) ≤ room
+unfolding fitting joined
+fitting_fits [] room = omega arith
+fitting_fits (l ∷ ls) room = by_test (leb (length l) room)
+    (λ i. rw i (omega (arith, leb-true (length l) room i, fitting_fits ls (room - length l), length-append l (joined (fitting (room - length l) ls)))))
+    (λ i. rw i (omega arith))
+
+pub plays_length : {lines : List (List ℕ)} {before : List ℕ} {r : Played} {after : List ℕ} → Plays lines before r after → length after ≡ length before
+plays_length {lines} {before} {r} p =
+    ap length p.holds
+    ∙ (length-append (joined (fitting (length before) lines)) (drop r.end before)
+    ∙ omega (arith, p.place, length-drop r.end before, fitting_fits lines (length before)))

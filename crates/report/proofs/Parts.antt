@@ -1,15 +1,16 @@
 -- A line copied into the part of a buffer from the place on, said of the whole buffer.
 -- Assumes nothing.
 use mathlib.Core.Path.{◌≡◌, sym}
-use mathlib.Core.Bool.{true}
+use mathlib.Core.Bool.{Bool, true, false}
 use mathlib.Core.List.{List, ◌++◌, append-nil}
-use Prim.Native.Nat.{ℕ, ◌+◌, ◌-◌, ◌≤◌}
+use Prim.Native.Nat.{ℕ, ◌+◌, ◌-◌, ◌≤◌, ◌<◌}
 use native.Mathlib.Omega.{arith}
-use borrow.Author.Tests.{le-leb, leb-true}
+use borrow.Author.Tests.{le-leb, lt-leb, leb-true, leb-false}
 use lib.Dec.{leb}
-use lib.ListN.{length, take, drop, length-drop, drop_of_length-le}
+use lib.ListN.{length, take, drop, length-drop, take-append-drop, drop_of_length-le}
 use lib.Seq.{sets-eq, take-append_seam, take_all, drop-drop}
-use Rattle.report.specs.declared.Wrote.TheVariants.{Next}
+use Rattle.rules.specs.declared.Reason.TheVariants.{NoFit}
+use Rattle.report.specs.declared.Wrote.TheVariants.{Next, Not}
 use Rattle.report.specs.Pieces.{Put, Copied}
 use Rattle.report.specs.Report.{Writes}
 
@@ -28,6 +29,12 @@ abbrev whole : ℕ → List ℕ → List ℕ → List ℕ
 whole place xs ys = take place xs ++ (ys ++ drop (length xs - place) (drop place xs))
 
 module _ (line : List ℕ) (place : ℕ) (xs : List ℕ) where
+  -- nothing fits where the place is past the end
+  pub past_the_end : length xs < place → Writes line place xs (Not NoFit) xs
+  past_the_end h =
+      let e : leb (place + length line) (length xs) ≡ false = lt-leb (place + length line) (length xs) (omega arith) in
+      record { answer = rw e; holds = rw e }
+
   module _ (h : place ≤ length xs) where
     ends : length (drop place xs) ≤ length xs - place
     ends = omega (arith, length-drop place xs)
@@ -39,8 +46,9 @@ module _ (line : List ℕ) (place : ℕ) (xs : List ℕ) where
     no_more ys = rw (drop_of_length-le (drop place xs) ends, append-nil)
 
     -- the line fits in the buffer where it fits in the part
-    room : (n : ℕ) → n ≡ length line → true ≡ leb n (length (drop place xs)) → leb (place + length line) (length xs) ≡ true
-    room n m e = le-leb (place + length line) (length xs) (omega (arith, leb-true n (length (drop place xs)) (sym e), length-drop place xs))
+    room : (n : ℕ) (r : Bool) → n ≡ length line → r ≡ leb n (length (drop place xs)) → leb (place + length line) (length xs) ≡ r
+    room n true m e = le-leb (place + length line) (length xs) (omega (arith, leb-true n (length (drop place xs)) (sym e), length-drop place xs))
+    room n false m e = lt-leb (place + length line) (length xs) (omega (arith, leb-false n (length (drop place xs)) (sym e), length-drop place xs))
 
     -- t is the array l with the line at its start
     module _ (l : List ℕ) (k n : ℕ) (t ys : List ℕ) (f : k ≤ length l) (made : Put l 0 line k n t) where
@@ -48,8 +56,17 @@ module _ (line : List ℕ) (place : ℕ) (xs : List ℕ) where
       copied w =
           let c : Copied n t (drop place xs) true ys = rw to_the_end at w in
           let s = stands l line k n t made f in
-          let e = room n s.0 c.answer in
+          let e = room n true s.0 c.answer in
           record {
             answer = rw (e, s.0);
             holds = rw (e, no_more ys, rw (← c.answer, s.1) at c.holds, s.0, drop-drop (length line) place xs);
+          }
+
+      pub not_copied : Copied n t (part place xs) false ys → Writes line place xs (Not NoFit) (whole place xs ys)
+      not_copied w =
+          let c : Copied n t (drop place xs) false ys = rw to_the_end at w in
+          let e = room n false (stands l line k n t made f).0 c.answer in
+          record {
+            answer = rw e;
+            holds = rw (e, no_more ys, rw (← c.answer) at c.holds) (take-append-drop place xs);
           }

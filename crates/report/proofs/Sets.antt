@@ -1,6 +1,6 @@
 -- Bytes stored one after the other, and one piece put after another.
 -- Assumes nothing.
-use mathlib.Core.Path.{◌≡◌, ap, sym, ◌∙◌}
+use mathlib.Core.Path.{◌≡◌, refl, ap, sym, ◌∙◌}
 use mathlib.Core.List.{List, [], ◌∷◌, ◌++◌}
 use Prim.Native.Nat.{ℕ, suc, ◌+◌, ◌≤◌, ◌<◌}
 use native.Mathlib.Numerals.{add-one}
@@ -23,6 +23,13 @@ sets_turn l out at i p s q h e =
 sets_append : (l : List ℕ) (i : ℕ) (vs ws : List ℕ) → sets (sets l i vs) (i + length vs) ws ≡ sets l i (vs ++ ws)
 sets_append l i [] ws = rw add-zero
 sets_append l i (u ∷ vs) ws = ap (λ (k : ℕ). sets (sets (set l i u) (suc i) vs) k ws) (add-suc i (length vs) ∙ sym (suc-add i (length vs))) ∙ sets_append (set l i u) (suc i) vs ws
+
+-- nothing; and one byte
+pub put_none : (l : List ℕ) (at k : ℕ) → Put l at [] k at l
+put_none l at k = record { next = omega arith; within = omega arith; holds = refl }
+
+pub put_one : (l : List ℕ) (at b : ℕ) → Put l at (b ∷ []) 1 (at + 1) (set l at b)
+put_one l at b = record { next = omega arith; within = omega arith; holds = refl }
 
 -- the piece ws behind the piece bs
 pub put_then : (l : List ℕ) (at : ℕ) (bs ws : List ℕ) (j k p r : ℕ) (t u : List ℕ) → Put l at bs j p t → Put t p ws k r u → Put l at (bs ++ ws) (j + k) r u

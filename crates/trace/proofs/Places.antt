@@ -1,16 +1,16 @@
 -- The place after a number, or where something is wrong, lies between where reading began and the end of the text.
 -- Assumes nothing.
 use mathlib.Core.Path.{◌≡◌, sym, ap}
-use mathlib.Core.Bool.{Bool, true, false, cond}
-use mathlib.Core.List.{List, ◌∷◌, ◌++◌}
-use Prim.Native.Nat.{ℕ, ◌+◌, ◌≤◌}
+use mathlib.Core.Bool.{Bool, true, false, cond, false≢true}
+use mathlib.Core.List.{List, [], ◌∷◌, ◌++◌}
+use Prim.Native.Nat.{ℕ, ◌+◌, ◌≤◌, ◌<◌}
 use native.Mathlib.Omega.{arith}
 use lib.Dec.{eqb}
 use lib.ListN.{length, drop, length-drop, length-append}
 use Rattle.rules.specs.Text.{decimal}
 use Rattle.trace.specs.declared.numbers.Parsed.{Parsed}
 use Rattle.trace.specs.declared.numbers.Parsed.TheVariants.{Number, Wrong}
-use Rattle.trace.specs.Numbers.{key_fault, number_in, number_at, field_at, agreeing, place_of}
+use Rattle.trace.specs.Numbers.{key_fault, number_in, number_at, field_at, agreeing, place_of, starts_lf}
 use Rattle.trace.proofs.Keys.{agreeing_left}
 use Rattle.trace.proofs.lines.Decimal.{NumberReading, number_reading}
 
@@ -44,7 +44,7 @@ module _ (used : Bool) (s : List ℕ) where
       let n = length-drop at s in
       record { from = w.from; to = omega (arith, w.to, n) }
 
-  field_within : (key : List ℕ) (at : ℕ) → at ≤ length s → Within at (length s) (place_of (field_at key used s at))
+  pub field_within : (key : List ℕ) (at : ℕ) → at ≤ length s → Within at (length s) (place_of (field_at key used s at))
   unfolding field_at
   field_within key at h =
       let n = agreeing key (drop at s) in
@@ -60,3 +60,11 @@ field_place key used s at p e h = rw e (field_within used s key at h)
 
 pub field_number : (key : List ℕ) (used : Bool) (s : List ℕ) (at n next : ℕ) → field_at key used s at ≡ Number n next → at ≤ length s → Within at (length s) next
 field_number key used s at n next e h = field_place key used s at (Number n next) (sym e) h
+
+-- where LF stands, the text has a byte
+starts_some : (t : List ℕ) → starts_lf t ≡ true → 0 < length t
+starts_some [] e = absurd (false≢true e)
+starts_some (b ∷ t) e = omega arith
+
+pub lf_inside : (s : List ℕ) (at : ℕ) → starts_lf (drop at s) ≡ true → at < length s
+lf_inside s at e = omega (arith, starts_some (drop at s) e, length-drop at s)
