@@ -3,15 +3,14 @@ cd "$(dirname "$(readlink -f "${BASH_SOURCE[0]}")")/.."
 command -v rt >/dev/null || { echo "bench: the Rattle kit is not there: no 'rt' on the PATH" >&2; exit 2; }
 kit=$(dirname "$(dirname "$(readlink -f "$(command -v rt)")")")
 tools=$kit/toolchain
-emulator= # today's kit is for x86-64 alone, and has none
 loader=("$tools/lib/ld-linux-x86-64.so.2" --library-path "$tools/lib")
 
-# The C library copies and fills 2 KiB and more by `rep movsb` and `rep stosb`: one instruction to a processor, and one for each byte to the emulator and to valgrind.
+# The C library copies and fills 2 KiB and more by `rep movsb` and `rep stosb`: one instruction to a processor, and one for each byte to valgrind.
 # With the thresholds out of reach it does that by vector moves, which count the same everywhere. REP=1 leaves it as it is.
 [ -n "${REP-}" ] || export GLIBC_TUNABLES=glibc.cpu.x86_rep_movsb_threshold=0x10000000:glibc.cpu.x86_rep_stosb_threshold=0x10000000
 
 # run PROGRAM: standard input to standard output.
-run() { ${emulator:+"$emulator"} "${loader[@]}" "$1"; }
+run() { "${loader[@]}" "$1"; }
 
 # compile NAME: bench/NAME.c to target/bench/NAME, as the kit does it with its own programs, but for -O2.
 compile() {
