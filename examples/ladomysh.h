@@ -1,4 +1,4 @@
-// The proved player, for C: declares what target/staticlib/libladomysh.a has (`rt staticlib ladomysh` writes it; x86-64 Linux). docs/GUIDE.md says how to link it.
+// The proved player, for C: declares what target/staticlib/libladomysh.a has (`tools/library` writes it; x86-64 Linux). docs/GUIDE.md says how to link it.
 #ifndef LADOMYSH_H
 #define LADOMYSH_H
 

@@ -1,4 +1,4 @@
-// The player for programs in C and Rust: `rt staticlib ladomysh` writes an archive whose one symbol is `ladomysh_play`. examples/ladomysh.h declares it.
+// The player for programs in C and Rust: `rt lib` writes an archive whose one symbol is `ladomysh_play`, and `tools/library` puts it where the examples look. examples/ladomysh.h declares it.
 //
 // A slice is a pointer and a length there, and `Played` a struct of C's. The contract is that of `play::play`; what a caller in another language owes, nothing checks: docs/GUIDE.md says it.
 #![tactic(auto)]

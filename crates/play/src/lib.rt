@@ -102,14 +102,11 @@ fn play_caches(count: u64, text: &[u8], from: usize, out: &mut [u8]) -> Played
     play_steps(made, text, from, out)
 }
 
-// The most bytes of a text that is played.
-const LONGEST: usize = 65536;
-
 // The whole report, from the start of the buffer on.
 pub fn play(text: &[u8], out: &mut [u8]) -> Played
     ensures { Plays (report_of text.now) out.old result out.new }
 {
-    if LONGEST < text.len() {
+    if 65536 < text.len() {
         return last_line(out, 0, 0, Reason::TextTooLong, 0);
     }
     let first = trace::first_line(text);

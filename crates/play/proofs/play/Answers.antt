@@ -20,8 +20,8 @@ module _ (s : List ℕ) where
   unfolding report_of
   by_first h e = rw (le-ltb longest (length s) h, ← e)
 
-pub returns-then-text-gt-LONGEST : goal.returns-then-text-gt-LONGEST
-returns-then-text-gt-LONGEST c = rw (too_long c.args.text.now (omega arith)) (one_line c.last_line.ensures)
+pub returns-then-text-gt65536 : goal.returns-then-text-gt65536
+returns-then-text-gt65536 c = rw (too_long c.args.text.now (omega arith)) (one_line c.last_line.ensures)
 
 pub unreadable-requires : goal.unreadable-requires
 unreadable-requires c = omega (arith, first_column _ _ _ (sym c.in-Broken.ensures))
