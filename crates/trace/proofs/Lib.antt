@@ -1,4 +1,4 @@
--- What the proofs of the code share (keys, digits and places that are read, byte by byte and field by field; what a reader owns), and the laws of trace text:
+-- Laws of what the code reads (keys, digits and places that are read, byte by byte and field by field; what a reader owns), and the laws of trace text:
 --     lines      lines over a list of fields: which are good, what is due behind their first bytes, and what reading them comes to
 --     ReadsBack  what is written is read, and nothing else is read as it
 --     Columns    the column and the kind that are told are those of the first byte that can't continue any good line

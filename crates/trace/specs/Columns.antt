@@ -35,7 +35,7 @@ number p = last_number [] p
 -- 12c: "number too large": b is "the digit that first passes the limit"
 pub record IsTooLarge (p : List ℕ) (b : ℕ) : Type 0 where
   pub value : ℕ
-  pub so_far_lem : number p ≡ decimal value
+  pub so_far : number p ≡ decimal value
   pub fits : Small value
   pub digit : is_digit b ≡ true
   pub passes : 2 ^ 64 ≤ value * 10 + (b - 48)

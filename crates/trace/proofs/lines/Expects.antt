@@ -62,11 +62,11 @@ key_number key v h = last_both [] key (decimal v) ∙ rw (last_plain key h) (las
 -- ---- what is due settles it
 
 -- the digits of the number so far
-abbrev pub so_far : Due → List ℕ
-so_far Due.some_op = []
-so_far (Due.text k) = []
-so_far (Due.digit used) = []
-so_far (Due.behind v k) = decimal v
+abbrev pub digits_so_far : Due → List ℕ
+digits_so_far Due.some_op = []
+digits_so_far (Due.text k) = []
+digits_so_far (Due.digit used) = []
+digits_so_far (Due.behind v k) = decimal v
 
 -- fixed text is no digit, and LF is only behind a number, which fits
 abbrev pub Sound : Due → Type 0
@@ -79,7 +79,7 @@ Sound (Due.behind v k) = (is_digit k ≡ false) × Small v
 pub record Expects (Good : List ℕ → Type 0) (p : List ℕ) (q : Due) : Type 0 where
   pub goes_on : (c : ℕ) → Accepts q c → Continues Good p c
   pub needed : (c : ℕ) → Continues Good p c → Accepts q c
-  pub ends_with : number p ≡ so_far q
+  pub ends_with : number p ≡ digits_so_far q
   pub sound : Sound q
 
 plain_front : (x y : List ℕ) → plain (x ++ y) ≡ true → plain x ≡ true
@@ -87,7 +87,7 @@ unfolding plain
 plain_front [] y h = refl
 plain_front (b ∷ x) y h = rw (plain_byte b (x ++ y) h, plain_not_lf b (x ++ y) h) (plain_front x y (plain_tail b (x ++ y) h))
 
-leads_number : (fs : List Field) (p : List ℕ) (q : Due) → Keyed fs → Leads fs p q → number p ≡ so_far q
+leads_number : (fs : List Field) (p : List ℕ) (q : Due) → Keyed fs → Leads fs p q → number p ≡ digits_so_far q
 unfolding Keyed Leads
 leads_number [] p q keyed leads = absurd leads
 leads_number (f ∷ fs) p q keyed (InField.in_key k others key q-is) = rw q-is (last_plain p (plain_front p (k ∷ others) (rw (← key) keyed.1)))
@@ -169,7 +169,7 @@ module _ (Good : List ℕ → Type 0) (p : List ℕ) where
     where
       many : TooMany v b f → KindOf Good f p (b ∷ rest)
       many (inl m) = rw m.1 (inr (off.0, x.ends_with ∙ (rw m.0 (one_digit 19 0 (omega arith)))))
-      many (inr m) = rw m.1 (record { value = v; so_far_lem = x.ends_with; fits = x.sound.1; digit = off.0; passes = m.0 })
+      many (inr m) = rw m.1 (record { value = v; so_far = x.ends_with; fits = x.sound.1; digit = off.0; passes = m.0 })
   expects_kind (Due.behind v k) x f (b ∷ rest) (inr off) =
       by_test (eqb k 10)
       (λ h. rw (off.2, h) (off.0, x.goes_on 10 (inl (sym (eqb-true k 10 h)))))

@@ -22,7 +22,7 @@ module _ (Good : List ℕ → Type 0) where
   module _ (p : List ℕ) (b : ℕ) where
     -- a number so far has a digit
     not_empty : IsTooLarge p b → number p ≡ [] → ⊥
-    not_empty c e = let z = ap length (sym c.so_far_lem ∙ e) in omega (arith, z, some_digit c.value)
+    not_empty c e = let z = ap length (sym c.so_far ∙ e) in omega (arith, z, some_digit c.value)
 
     key_not_bad : IsWrongKey Good p b → IsBadNumber Good p b → ⊥
     key_not_bad a (inl h) = not_both (h.1 a.due a.goes) a.text
@@ -41,7 +41,7 @@ module _ (Good : List ℕ → Type 0) where
     bad_not_large (inl h) c = not_both c.digit h.0
     bad_not_large (inr h) c =
         let zero : decimal 0 ≡ 48 ∷ [] = one_digit 19 0 (omega arith) in
-        let text : decimal c.value ++ [] ≡ decimal 0 ++ [] = ap (λ x. x ++ []) (sym c.so_far_lem ∙ (h.1 ∙ sym zero)) in
+        let text : decimal c.value ++ [] ≡ decimal 0 ++ [] = ap (λ x. x ++ []) (sym c.so_far ∙ (h.1 ∙ sym zero)) in
         let is : c.value ≡ 0 = same_number c.value 0 [] [] c.fits (omega arith) refl refl text in
         omega (arith, is, c.passes, digit_most b c.digit)
 
