@@ -7,11 +7,8 @@ use Prim.Native.Nat.{ℕ, zero, suc, ◌+◌, ◌<◌, ◌≤◌}
 use native.Mathlib.Nat.{le_of_suc-le-suc, not-suc-le-zero}
 use native.Mathlib.Numerals.{add-one}
 use lib.ListN.{length, get_or}
-use Rattle.rules.specs.declared.Found.{Found}
-use Rattle.rules.specs.declared.Found.TheVariants.{At, Nowhere}
+use Rattle.std.specs.Prelude.{Option, Some, None}
 use Rattle.rules.specs.declared.Pos.{Pos}
-use Rattle.rules.specs.declared.Room.{Room}
-use Rattle.rules.specs.declared.Room.TheVariants.{Slot, Full}
 use Rattle.rules.specs.Lists.{one_on, or_else, first_at, first_found}
 use Rattle.rules.specs.Machine.{pos, in_cache}
 use Rattle.access.specs.Look.{over}
@@ -59,24 +56,24 @@ module _ {A S : Type 0} where
 -- ---- a search
 
 -- the place of what passes
-abbrev pub here : Bool → Pos → Found
-here passes p = cond passes (At p) Nowhere
+abbrev pub here : Bool → Pos → Option Pos
+here passes p = cond passes (Some p) None
 
-or_nowhere : (f : Found) → or_else f Nowhere ≡ f
-or_nowhere (At p) = refl
-or_nowhere Nowhere = refl
+or_nowhere : (f : Option Pos) → or_else f None ≡ f
+or_nowhere (Some p) = refl
+or_nowhere None = refl
 
-or_or : (f g r : Found) → or_else (or_else f g) r ≡ or_else f (or_else g r)
-or_or (At p) g r = refl
-or_or Nowhere g r = refl
+or_or : (f g r : Option Pos) → or_else (or_else f g) r ≡ or_else f (or_else g r)
+or_or (Some p) g r = refl
+or_or None g r = refl
 
-abbrev placed : (ℕ → Pos) → Room → Found
-placed p (Slot i) = At (p i)
-placed p Full = Nowhere
+abbrev placed : (ℕ → Pos) → Option ℕ → Option Pos
+placed p (Some i) = Some (p i)
+placed p None = None
 
 module _ {A : Type 0} where
   -- keeping the first place that is found is the search
-  pub over_finds : (k : ℕ → A → Found) (l : List A) (f : Found) → over (λ i y f. or_else f (k i y)) l f ≡ or_else f (first_found k l)
+  pub over_finds : (k : ℕ → A → Option Pos) (l : List A) (f : Option Pos) → over (λ i y f. or_else f (k i y)) l f ≡ or_else f (first_found k l)
   unfolding over first_found
   over_finds k [] f = sym (or_nowhere f)
   over_finds k (y ∷ l) f = over_finds (λ i. k (suc i)) l (or_else f (k 0 y)) ∙ or_or f (k 0 y) (first_found (λ i. k (suc i)) l)
@@ -87,16 +84,16 @@ module _ {A : Type 0} where
   first_places t p [] = refl
   first_places t p (y ∷ l) = go (t 0 y) (first_at (λ i. t (suc i)) l) (first_places (λ i. t (suc i)) (λ i. p (suc i)) l)
     where
-      go : (b : Bool) (r : Room) → first_found (λ i y. here (t (suc i) y) (p (suc i))) l ≡ placed (λ i. p (suc i)) r
-          → or_else (here b (p 0)) (first_found (λ i y. here (t (suc i) y) (p (suc i))) l) ≡ placed p (cond b (Slot 0) (one_on r))
+      go : (b : Bool) (r : Option ℕ) → first_found (λ i y. here (t (suc i) y) (p (suc i))) l ≡ placed (λ i. p (suc i)) r
+          → or_else (here b (p 0)) (first_found (λ i y. here (t (suc i) y) (p (suc i))) l) ≡ placed p (cond b (Some 0) (one_on r))
       go true r e = refl
-      go false (Slot i) e = e
-      go false Full e = e
+      go false (Some i) e = e
+      go false None e = e
 
   -- the same among the slots of a cache
   pub first_in : (c : ℕ) (t : ℕ → A → Bool) (l : List A) → first_found (λ s y. here (t s y) (pos c s)) l ≡ in_cache c (first_at t l)
   first_in c t l = first_places t (pos c) l ∙ as_room (first_at t l)
     where
-      as_room : (r : Room) → placed (pos c) r ≡ in_cache c r
-      as_room (Slot s) = refl
-      as_room Full = refl
+      as_room : (r : Option ℕ) → placed (pos c) r ≡ in_cache c r
+      as_room (Some s) = refl
+      as_room None = refl

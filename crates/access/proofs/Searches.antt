@@ -6,11 +6,10 @@ use Prim.Native.Nat.{ℕ, zero, suc}
 use native.Mathlib.Omega.{arith}
 use lib.Dec.{eqb}
 use borrow.Author.Tests.{eqb-true, not-false}
+use Rattle.std.specs.Prelude.{Option, Some, None}
 use Rattle.rules.specs.declared.Line.{Line}
 use Rattle.rules.specs.declared.Machine.{Machine}
 use Rattle.rules.specs.declared.Pos.{Pos}
-use Rattle.rules.specs.declared.Found.{Found}
-use Rattle.rules.specs.declared.Found.TheVariants.{At, Nowhere}
 use Rattle.rules.specs.declared.Answer.TheVariants.{Misspec}
 use Rattle.rules.specs.Data.{Data}
 use Rattle.rules.specs.Machine.{at, find, gives}
@@ -50,11 +49,11 @@ late_line a o l true m e = m
 late_line a o l false m e = let z : ◌≡◌ {A = Search} (Clear (Here o l)) Late = rw m at e in let y : ◌≡◌ {A = ℕ} 0 1 = cc in absurd (omega arith)
 
 module _ (μ : Machine) (c a x : ℕ) (d : Data) where
-  late_found : (vid : Bool) (f : Found) → ActsAs μ vid a → searched a (held_at μ f) ≡ Late → cond vid (store_by μ c a x d f) (store_plain_by μ c x d f) ≡ gives Misspec (abort_of μ)
+  late_found : (vid : Bool) (f : Option Pos) → ActsAs μ vid a → searched a (held_at μ f) ≡ Late → cond vid (store_by μ c a x d f) (store_plain_by μ c x d f) ≡ gives Misspec (abort_of μ)
   unfolding store_owned
-  late_found true (At o) p e = rw (late_line a o (at μ o) (misspeculates a (at μ o)) refl e)
-  late_found false (At o) p e = rw (ap (λ n. misspeculates n (at μ o)) (sym (p refl)) ∙ late_line a o (at μ o) (misspeculates a (at μ o)) refl e)
-  late_found vid Nowhere p e = let y : ◌≡◌ {A = ℕ} 0 1 = cc in absurd (omega arith)
+  late_found true (Some o) p e = rw (late_line a o (at μ o) (misspeculates a (at μ o)) refl e)
+  late_found false (Some o) p e = rw (ap (λ n. misspeculates n (at μ o)) (sym (p refl)) ∙ late_line a o (at μ o) (misspeculates a (at μ o)) refl e)
+  late_found vid None p e = let y : ◌≡◌ {A = ℕ} 0 1 = cc in absurd (omega arith)
 
   pub late : (vid : Bool) {h : Held} → h ≡ held_at μ (find (owning x a) μ) → ActsAs μ vid a → searched a h ≡ Late → store_of μ vid c a x d ≡ gives Misspec (abort_of μ)
   unfolding store_of

@@ -5,9 +5,8 @@ use mathlib.Core.Bool.{Bool, true, false, ◌&&◌, ◌||◌, and-false, or-fals
 use Prim.Native.Nat.{ℕ}
 use lib.Dec.{eqb}
 use lib.ListN.{get_or}
+use Rattle.std.specs.Prelude.{Option, Some, None}
 use Rattle.rules.specs.declared.Cache.{Cache}
-use Rattle.rules.specs.declared.Found.{Found}
-use Rattle.rules.specs.declared.Found.TheVariants.{At, Nowhere}
 use Rattle.rules.specs.declared.Line.{Line}
 use Rattle.rules.specs.declared.Machine.{Machine}
 use Rattle.rules.specs.declared.Pos.{Pos}
@@ -59,13 +58,13 @@ module _ {S : Type 0} where
 -- ---- one kind by itself
 
 -- where what is held stands
-abbrev place_of : Held → Found
-place_of (Here p l) = At p
-place_of Nothing = Nowhere
+abbrev place_of : Held → Option Pos
+place_of (Here p l) = Some p
+place_of Nothing = None
 
 module _ (t : Pos → Line → Bool) (μ : Machine) where
   -- what a line that passes adds: its place, itself, that there is one
-  abbrev placing : Pos → Line → Found → Found
+  abbrev placing : Pos → Line → Option Pos → Option Pos
   placing p l f = or_else f (here (t p l) p)
 
   abbrev keeping : Pos → Line → Held → Held
@@ -75,25 +74,25 @@ module _ (t : Pos → Line → Bool) (μ : Machine) where
   noting p l b = b || t p l
 
   -- the search in one cache
-  abbrev within : ℕ → Cache → Found
+  abbrev within : ℕ → Cache → Option Pos
   within c h = in_cache c (first_at (λ s l. t (pos c s) l) h.lines)
 
   -- the first place is the search's
-  places : walk placing μ Nowhere ≡ find t μ
+  places : walk placing μ None ≡ find t μ
   unfolding find
-  places = over_part (λ (f : Found). f) _ (λ c h f. or_else f (within c h)) in_cache_lem μ.caches Nowhere ∙ over_finds within μ.caches Nowhere
+  places = over_part (λ (f : Option Pos). f) _ (λ c h f. or_else f (within c h)) in_cache_lem μ.caches None ∙ over_finds within μ.caches None
     where
-      in_cache_lem : (c : ℕ) (h : Cache) (f : Found) → over (λ i. placing (pos c i)) h.lines f ≡ or_else f (within c h)
+      in_cache_lem : (c : ℕ) (h : Cache) (f : Option Pos) → over (λ i. placing (pos c i)) h.lines f ≡ or_else f (within c h)
       in_cache_lem c h f = over_finds (λ s l. here (t (pos c s) l) (pos c s)) h.lines f ∙ ap (or_else f) (first_in c (λ s l. t (pos c s) l) h.lines)
 
   -- there is one where the search finds one
   notes : walk noting μ false ≡ is_found (find t μ)
-  notes = sym (walk_part is_found placing noting (λ p l f. found_or f (t p l) p) μ Nowhere) ∙ ap is_found places
+  notes = sym (walk_part is_found placing noting (λ p l f. found_or f (t p l) p) μ None) ∙ ap is_found places
     where
-      found_or : (f : Found) (b : Bool) (p : Pos) → is_found (or_else f (here b p)) ≡ (is_found f || b)
-      found_or (At q) b p = refl
-      found_or Nowhere true p = refl
-      found_or Nowhere false p = refl
+      found_or : (f : Option Pos) (b : Bool) (p : Pos) → is_found (or_else f (here b p)) ≡ (is_found f || b)
+      found_or (Some q) b p = refl
+      found_or None true p = refl
+      found_or None false p = refl
 
   -- what is held stands where the search finds it
   held_place : place_of (walk keeping μ Nothing) ≡ find t μ

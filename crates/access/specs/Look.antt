@@ -1,12 +1,10 @@
 -- What a load or a store of cache c, which acts with number a on address x, needs to know of the machine: the first line of each kind, and where it stands.
 -- Assumes nothing.
-use Rattle.std.specs.Prelude.{Bool, false, cond, ◌&&◌, ◌||◌, List, [], ◌∷◌, ℕ, suc, eqb}
+use Rattle.std.specs.Prelude.{Bool, false, cond, ◌&&◌, ◌||◌, List, [], ◌∷◌, ℕ, suc, eqb, Option, Some, None}
 use Rattle.rules.specs.declared.Line.{Line}
 use Rattle.rules.specs.declared.Cache.{Cache}
 use Rattle.rules.specs.declared.Machine.{Machine}
 use Rattle.rules.specs.declared.Pos.{Pos}
-use Rattle.rules.specs.declared.Found.{Found}
-use Rattle.rules.specs.declared.Found.TheVariants.{At, Nowhere}
 use Rattle.rules.specs.States.{dirty}
 use Rattle.rules.specs.Line.{is_owner, is_plain}
 use Rattle.rules.specs.Machine.{pos, at, find}
@@ -26,9 +24,9 @@ abbrev pub any_plain : ℕ → Pos → Line → Bool
 any_plain x p l = is_plain x l
 
 -- what was found, with its line
-abbrev pub held_at : Machine → Found → Held
-held_at μ (At p) = Here p (at μ p)
-held_at μ Nowhere = Nothing
+abbrev pub held_at : Machine → Option Pos → Held
+held_at μ (Some p) = Here p (at μ p)
+held_at μ None = Nothing
 
 unfoldable pub seen_of : Machine → ℕ → ℕ → ℕ → Seen
 seen_of μ c a x = record {

@@ -9,10 +9,8 @@ use native.Mathlib.Nat.{le_of_suc-le-suc, not-suc-le-zero}
 use native.Mathlib.Numerals.{add-one}
 use lib.ListN.{length, get_or, set}
 use lib.Seq.{set-get_or}
+use Rattle.std.specs.Prelude.{Option, Some, None}
 use Rattle.rules.specs.declared.Pos.{Pos}
-use Rattle.rules.specs.declared.Found.{Found}
-use Rattle.rules.specs.declared.Found.TheVariants.{At, Nowhere}
-use Rattle.rules.specs.declared.Room.TheVariants.{Slot, Full}
 use Rattle.rules.specs.Lists.{map_at, first_at, first_found}
 
 module _ {A : Type 0} where
@@ -28,29 +26,29 @@ module _ {A : Type 0} where
   rest : {B : Type 0} (k : ℕ → A → B) (b : B) (x : A) (l : List A) (d : A) (i : ℕ) → Before k b (x ∷ l) d (suc i) → Before (λ j. k (suc j)) b l d i
   rest k b x l d i n j q = n (suc j) (suc-le-suc q)
 
-  pub first_here : (k : ℕ → A → Bool) (l : List A) (d : A) (i : ℕ) → Before k false l d i → i < length l → k i (get_or l i d) ≡ true → first_at k l ≡ Slot i
+  pub first_here : (k : ℕ → A → Bool) (l : List A) (d : A) (i : ℕ) → Before k false l d i → i < length l → k i (get_or l i d) ≡ true → first_at k l ≡ Some i
   unfolding first_at
   first_here k [] d i n h e = absurd (not-suc-le-zero h)
   first_here k (x ∷ l) d zero n h e = rw e
   first_here k (x ∷ l) d (suc i) n h e = rw (first k false x l d i n, first_here (λ j. k (suc j)) l d i (rest k false x l d i n) (le_of_suc-le-suc h) e)
 
-  pub first_full : (k : ℕ → A → Bool) (l : List A) (d : A) (i : ℕ) → Before k false l d i → length l ≤ i → first_at k l ≡ Full
+  pub first_full : (k : ℕ → A → Bool) (l : List A) (d : A) (i : ℕ) → Before k false l d i → length l ≤ i → first_at k l ≡ None
   unfolding first_at
   first_full k [] d i n h = refl
   first_full k (x ∷ l) d zero n h = absurd (not-suc-le-zero h)
   first_full k (x ∷ l) d (suc i) n h = rw (first k false x l d i n, first_full (λ j. k (suc j)) l d i (rest k false x l d i n) (le_of_suc-le-suc h))
 
-  pub found_here : (k : ℕ → A → Found) (l : List A) (d : A) (i : ℕ) {p : Pos} → Before k Nowhere l d i → i < length l → k i (get_or l i d) ≡ At p → first_found k l ≡ At p
+  pub found_here : (k : ℕ → A → Option Pos) (l : List A) (d : A) (i : ℕ) {p : Pos} → Before k None l d i → i < length l → k i (get_or l i d) ≡ Some p → first_found k l ≡ Some p
   unfolding first_found
   found_here k [] d i n h e = absurd (not-suc-le-zero h)
   found_here k (x ∷ l) d zero n h e = rw e
-  found_here k (x ∷ l) d (suc i) n h e = rw (first k Nowhere x l d i n) (found_here (λ j. k (suc j)) l d i (rest k Nowhere x l d i n) (le_of_suc-le-suc h) e)
+  found_here k (x ∷ l) d (suc i) n h e = rw (first k None x l d i n) (found_here (λ j. k (suc j)) l d i (rest k None x l d i n) (le_of_suc-le-suc h) e)
 
-  pub found_nowhere : (k : ℕ → A → Found) (l : List A) (d : A) (i : ℕ) → Before k Nowhere l d i → length l ≤ i → first_found k l ≡ Nowhere
+  pub found_nowhere : (k : ℕ → A → Option Pos) (l : List A) (d : A) (i : ℕ) → Before k None l d i → length l ≤ i → first_found k l ≡ None
   unfolding first_found
   found_nowhere k [] d i n h = refl
   found_nowhere k (x ∷ l) d zero n h = absurd (not-suc-le-zero h)
-  found_nowhere k (x ∷ l) d (suc i) n h = rw (first k Nowhere x l d i n) (found_nowhere (λ j. k (suc j)) l d i (rest k Nowhere x l d i n) (le_of_suc-le-suc h))
+  found_nowhere k (x ∷ l) d (suc i) n h = rw (first k None x l d i n) (found_nowhere (λ j. k (suc j)) l d i (rest k None x l d i n) (le_of_suc-le-suc h))
 
   -- ---- a change of every element
 

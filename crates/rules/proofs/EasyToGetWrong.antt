@@ -6,12 +6,11 @@ use mathlib.Core.Bool.{Bool, true, false, true≢false}
 use Prim.Native.Nat.{ℕ, zero, suc, ◌≤◌, ◌<◌}
 use native.Mathlib.Omega.{arith}
 use borrow.Author.Tests.{lt-ltb, le-leb, lt-leb, le-ltb, eq-eqb, ne_eqb}
+use Rattle.std.specs.Prelude.{Option, Some, None}
 use Rattle.rules.specs.declared.State.TheVariants.{M, SM, SO}
 use Rattle.rules.specs.declared.Line.{Line}
 use Rattle.rules.specs.declared.Machine.{Machine}
 use Rattle.rules.specs.declared.Pos.{Pos}
-use Rattle.rules.specs.declared.Found.{Found}
-use Rattle.rules.specs.declared.Found.TheVariants.{At, Nowhere}
 use Rattle.rules.specs.declared.Op.TheVariants.{Load, Store, Evict}
 use Rattle.rules.specs.declared.Answer.{Answer}
 use Rattle.rules.specs.declared.Answer.TheVariants.{Value, Done, Misspec, Overflow, Refused}
@@ -141,9 +140,9 @@ later_read_misspeculates μ z h c v at₀ w A new o l own read-later =
     judged : misspeculates v (at μ o) ≡ true
     judged = unfold misspeculates in rw (state_not is_sm is_so refl (at μ o).state l.kind, lt-ltb v (at μ o).h read-later)
 
-    go : (d : Data) (r : Found) → find (λ p k. is_owner (line_of at₀) v k) μ ≡ r → (store_by μ c v (line_of at₀) d r).answer ≡ Misspec
-    go d (At p) e = rw (owner_is μ z h (line_of at₀) v (omega arith) o p is (find_some (λ p k. is_owner (line_of at₀) v k) μ p e)) (unfold store_owned in rw judged)
-    go d Nowhere e = absurd (not_both is (find_none (λ p k. is_owner (line_of at₀) v k) μ (λ q. empty_owner (line_of at₀) v) e o))
+    go : (d : Data) (r : Option Pos) → find (λ p k. is_owner (line_of at₀) v k) μ ≡ r → (store_by μ c v (line_of at₀) d r).answer ≡ Misspec
+    go d (Some p) e = rw (owner_is μ z h (line_of at₀) v (omega arith) o p is (find_some (λ p k. is_owner (line_of at₀) v k) μ p e)) (unfold store_owned in rw judged)
+    go d None e = absurd (not_both is (find_none (λ p k. is_owner (line_of at₀) v k) μ (λ q. empty_owner (line_of at₀) v) e o))
 
 -- ---- "Treating a settled S-M as clean at eviction. Its word is lost."
 

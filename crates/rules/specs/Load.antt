@@ -2,14 +2,12 @@
 -- A load of cache c acts with number a on the line of address x, and returns the word at place i of it; `vid` says that it is not plain.
 -- Where speculative lines live there is exactly one owner for a, and else none (law `owner_exactly_one`), so a search for it tells the cases apart.
 -- Assumes nothing.
-use Rattle.std.specs.Prelude.{Bool, cond, ◌&&◌, ℕ, suc, max, eqb}
+use Rattle.std.specs.Prelude.{Bool, cond, ◌&&◌, ℕ, suc, max, eqb, Option, Some, None}
 use Rattle.rules.specs.declared.State.{State}
 use Rattle.rules.specs.declared.State.TheVariants.{I, M, O, E, S, SM, SO, SE, SS}
 use Rattle.rules.specs.declared.Line.{Line}
 use Rattle.rules.specs.declared.Machine.{Machine}
 use Rattle.rules.specs.declared.Pos.{Pos}
-use Rattle.rules.specs.declared.Found.{Found}
-use Rattle.rules.specs.declared.Found.TheVariants.{At, Nowhere}
 use Rattle.rules.specs.declared.Answer.{Answer}
 use Rattle.rules.specs.declared.Answer.TheVariants.{Value}
 use Rattle.rules.specs.declared.Answered.{Answered}
@@ -49,9 +47,9 @@ without_stale μ vid c a x o = drop (is_stale_share c x (at μ o).m) (after_read
 
 -- the asker does not hold the owner: an S-S of its own that hits, "otherwise the word is the owner's, and the asker drops its own S-S lines with that m
 -- at that address and places S-S (m, a + 1)". "An S-S hit changes nothing."
-abbrev pub load_away : Machine → Bool → ℕ → ℕ → ℕ → ℕ → Pos → Found → Answered
-load_away μ vid c a x i o (At q) = gives (value_of (at μ q) i) μ
-load_away μ vid c a x i o Nowhere = place μ (value_of (at μ o) i) c (share_line x a (at μ o)) (without_stale μ vid c a x o)
+abbrev pub load_away : Machine → Bool → ℕ → ℕ → ℕ → ℕ → Pos → Option Pos → Answered
+load_away μ vid c a x i o (Some q) = gives (value_of (at μ q) i) μ
+load_away μ vid c a x i o None = place μ (value_of (at μ o) i) c (share_line x a (at μ o)) (without_stale μ vid c a x o)
 
 -- "If the asking cache holds the owner, or else an S-S that hits, its word is the value"
 unfoldable pub load_owned : Machine → Bool → ℕ → ℕ → ℕ → ℕ → Pos → Answered
@@ -59,9 +57,9 @@ load_owned μ vid c a x i o = cond (eqb o.cache c) (gives (value_of (at μ o) i)
 
 -- ---- "the word is that of the address's plain lines (they agree), else memory's"
 
-abbrev pub data_at : Machine → Found → Data → Data
-data_at μ (At p) d = (at μ p).word
-data_at μ Nowhere d = d
+abbrev pub data_at : Machine → Option Pos → Data → Data
+data_at μ (Some p) d = (at μ p).word
+data_at μ None d = d
 
 unfoldable pub plain_data : Machine → ℕ → Data
 plain_data μ x = data_at μ (find (λ p l. is_plain x l) μ) (memory_at μ x)
@@ -80,14 +78,14 @@ unfoldable pub demote_line : ℕ → Line → Line
 demote_line x l = cond (eqb l.address x) (line (demote l.state) l.address l.m l.h l.word) l
 
 -- "if cached: ... the asker places S. Else the asker places E from memory."
-abbrev pub load_cached : Machine → ℕ → ℕ → ℕ → Found → Answered
-load_cached μ c x i (At q) = place μ (value_of (at μ q) i) c (line S x 0 0 (at μ q).word) (change (λ p l. demote_line x l) μ)
-load_cached μ c x i Nowhere = place μ (Value (read (memory_at μ x) i)) c (line E x 0 0 (memory_at μ x)) μ
+abbrev pub load_cached : Machine → ℕ → ℕ → ℕ → Option Pos → Answered
+load_cached μ c x i (Some q) = place μ (value_of (at μ q) i) c (line S x 0 0 (at μ q).word) (change (λ p l. demote_line x l) μ)
+load_cached μ c x i None = place μ (Value (read (memory_at μ x) i)) c (line E x 0 0 (memory_at μ x)) μ
 
 -- "A plain line of the asker gives the value, no change."
-abbrev pub load_plain : Machine → ℕ → ℕ → ℕ → Found → Answered
-load_plain μ c x i (At q) = gives (value_of (at μ q) i) μ
-load_plain μ c x i Nowhere = load_cached μ c x i (find (λ p l. is_plain x l) μ)
+abbrev pub load_plain : Machine → ℕ → ℕ → ℕ → Option Pos → Answered
+load_plain μ c x i (Some q) = gives (value_of (at μ q) i) μ
+load_plain μ c x i None = load_cached μ c x i (find (λ p l. is_plain x l) μ)
 
 -- ---- "Load with a VID, otherwise."
 
@@ -104,9 +102,9 @@ load_new μ c a x i = place μ (Value (read (plain_data μ x) i)) c (line (cond 
 
 -- ---- the three cases
 
-abbrev pub load_by : Machine → Bool → ℕ → ℕ → ℕ → ℕ → Found → Answered
-load_by μ vid c a x i (At o) = load_owned μ vid c a x i o
-load_by μ vid c a x i Nowhere = cond vid (load_new μ c a x i) (load_plain μ c x i (find (λ p l. eqb p.cache c && is_plain x l) μ))
+abbrev pub load_by : Machine → Bool → ℕ → ℕ → ℕ → ℕ → Option Pos → Answered
+load_by μ vid c a x i (Some o) = load_owned μ vid c a x i o
+load_by μ vid c a x i None = cond vid (load_new μ c a x i) (load_plain μ c x i (find (λ p l. eqb p.cache c && is_plain x l) μ))
 
 unfoldable pub load_of : Machine → Bool → ℕ → ℕ → ℕ → ℕ → Answered
 load_of μ vid c a x i = load_by μ vid c a x i (find (λ p l. is_owner x a l) μ)

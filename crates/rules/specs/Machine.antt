@@ -1,15 +1,11 @@
 -- The machine: its lines by place, how they change, drop, are found and are placed; memory; a fresh machine.
 -- A machine is built here alone: `with_caches`, `write`, `with_lcvid`, `fresh`.
 -- Assumes nothing.
-use Rattle.std.specs.Prelude.{Bool, true, false, cond, ◌&&◌, not, List, [], ℕ, leb, get_or, set, replicate}
+use Rattle.std.specs.Prelude.{Bool, true, false, cond, ◌&&◌, not, List, [], ℕ, leb, get_or, set, replicate, Option, Some, None}
 use Rattle.rules.specs.declared.Line.{Line}
 use Rattle.rules.specs.declared.Cache.{Cache}
 use Rattle.rules.specs.declared.Machine.{Machine}
 use Rattle.rules.specs.declared.Pos.{Pos}
-use Rattle.rules.specs.declared.Found.{Found}
-use Rattle.rules.specs.declared.Found.TheVariants.{At, Nowhere}
-use Rattle.rules.specs.declared.Room.{Room}
-use Rattle.rules.specs.declared.Room.TheVariants.{Slot, Full}
 use Rattle.rules.specs.declared.Answer.{Answer}
 use Rattle.rules.specs.declared.Answer.TheVariants.{Done, Refused}
 use Rattle.rules.specs.declared.Reason.TheVariants.{CacheCount, NoRoom}
@@ -61,16 +57,16 @@ with_lcvid v μ = record { caches = μ.caches; count = μ.count; lcvid = v; memo
 
 -- ---- searches, cache by cache and slot by slot
 
-abbrev pub in_cache : ℕ → Room → Found
-in_cache c (Slot s) = At (pos c s)
-in_cache c Full = Nowhere
+abbrev pub in_cache : ℕ → Option ℕ → Option Pos
+in_cache c (Some s) = Some (pos c s)
+in_cache c None = None
 
-unfoldable pub find : (Pos → Line → Bool) → Machine → Found
+unfoldable pub find : (Pos → Line → Bool) → Machine → Option Pos
 find t μ = first_found (λ c h. in_cache c (first_at (λ s l. t (pos c s) l) h.lines)) μ.caches
 
-abbrev pub is_found : Found → Bool
-is_found (At p) = true
-is_found Nowhere = false
+abbrev pub is_found : Option Pos → Bool
+is_found (Some p) = true
+is_found None = false
 
 unfoldable pub any_line : (Pos → Line → Bool) → Machine → Bool
 any_line t μ = is_found (find t μ)
@@ -84,24 +80,24 @@ abbrev pub gives : Answer → Machine → Answered
 gives r μ = record { answer = r; machine = μ }
 
 -- "the lowest free slot of the asking cache; free means empty, dead, or dropped by this very step. Dropping comes before placing."
-abbrev pub free_in : ℕ → Cache → Room
+abbrev pub free_in : ℕ → Cache → Option ℕ
 free_in lc k = first_at (λ s l. not (live lc l)) k.lines
 
-unfoldable pub free_slot : Machine → ℕ → Room
+unfoldable pub free_slot : Machine → ℕ → Option ℕ
 free_slot μ c = free_in μ.lcvid (get_or μ.caches c no_cache)
 
 -- "The asker places": in δ, which is μ after the drops; where no slot is free, refusal 11, and μ comes back unchanged
-abbrev pub placed_in : Machine → Answer → ℕ → Line → Machine → Room → Answered
-placed_in μ r c l δ (Slot s) = gives r (put (pos c s) l δ)
-placed_in μ r c l δ Full = gives (Refused NoRoom) μ
+abbrev pub placed_in : Machine → Answer → ℕ → Line → Machine → Option ℕ → Answered
+placed_in μ r c l δ (Some s) = gives r (put (pos c s) l δ)
+placed_in μ r c l δ None = gives (Refused NoRoom) μ
 
 unfoldable pub place : Machine → Answer → ℕ → Line → Machine → Answered
 place μ r c l δ = placed_in μ r c l δ (free_slot δ c)
 
 -- the same for two lines, one after the other
-abbrev pub placed_two_in : Machine → Answer → ℕ → Line → Line → Machine → Room → Answered
-placed_two_in μ r c k l δ (Slot s) = place μ r c l (put (pos c s) k δ)
-placed_two_in μ r c k l δ Full = gives (Refused NoRoom) μ
+abbrev pub placed_two_in : Machine → Answer → ℕ → Line → Line → Machine → Option ℕ → Answered
+placed_two_in μ r c k l δ (Some s) = place μ r c l (put (pos c s) k δ)
+placed_two_in μ r c k l δ None = gives (Refused NoRoom) μ
 
 unfoldable pub place_two : Machine → Answer → ℕ → Line → Line → Machine → Answered
 place_two μ r c k l δ = placed_two_in μ r c k l δ (free_slot δ c)

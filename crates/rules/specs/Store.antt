@@ -1,12 +1,10 @@
 -- Store with a VID, and plain store. A store of cache c acts with number a on the line of address x; d is the whole new version of that line.
 -- Assumes nothing.
-use Rattle.std.specs.Prelude.{Bool, cond, ◌&&◌, ◌||◌, ℕ, ltb, eqb}
+use Rattle.std.specs.Prelude.{Bool, cond, ◌&&◌, ◌||◌, ℕ, ltb, eqb, Option, Some, None}
 use Rattle.rules.specs.declared.State.TheVariants.{M, SM, SO}
 use Rattle.rules.specs.declared.Line.{Line}
 use Rattle.rules.specs.declared.Machine.{Machine}
 use Rattle.rules.specs.declared.Pos.{Pos}
-use Rattle.rules.specs.declared.Found.{Found}
-use Rattle.rules.specs.declared.Found.TheVariants.{At, Nowhere}
 use Rattle.rules.specs.declared.Answer.TheVariants.{Done, Misspec}
 use Rattle.rules.specs.declared.Answered.{Answered}
 use Rattle.rules.specs.Data.{Data, put_word}
@@ -49,9 +47,9 @@ store_owned μ c a x d o =
     cond (misspeculates a (at μ o)) (gives Misspec (abort_of μ))
     (cond (is_sm (at μ o).state && eqb a (at μ o).m) (store_over μ c a x d o) (store_split μ c a x d o))
 
-abbrev pub store_by : Machine → ℕ → ℕ → ℕ → Data → Found → Answered
-store_by μ c a x d (At o) = store_owned μ c a x d o
-store_by μ c a x d Nowhere = store_new μ c a x d
+abbrev pub store_by : Machine → ℕ → ℕ → ℕ → Data → Option Pos → Answered
+store_by μ c a x d (Some o) = store_owned μ c a x d o
+store_by μ c a x d None = store_new μ c a x d
 
 -- "Owner S-O, or S-M or S-E with h > LCVID: misspeculation."
 abbrev pub misspeculates_plain : Machine → Line → Bool
@@ -61,9 +59,9 @@ misspeculates_plain μ l = misspeculates μ.lcvid l
 unfoldable pub store_m : Machine → ℕ → ℕ → Data → Answered
 store_m μ c x d = place μ Done c (line M x 0 0 d) (drop (is_of x) μ)
 
-abbrev pub store_plain_by : Machine → ℕ → ℕ → Data → Found → Answered
-store_plain_by μ c x d (At o) = cond (misspeculates_plain μ (at μ o)) (gives Misspec (abort_of μ)) (store_m μ c x d)
-store_plain_by μ c x d Nowhere = store_m μ c x d
+abbrev pub store_plain_by : Machine → ℕ → ℕ → Data → Option Pos → Answered
+store_plain_by μ c x d (Some o) = cond (misspeculates_plain μ (at μ o)) (gives Misspec (abort_of μ)) (store_m μ c x d)
+store_plain_by μ c x d None = store_m μ c x d
 
 unfoldable pub store_of : Machine → Bool → ℕ → ℕ → ℕ → Data → Answered
 store_of μ vid c a x d = cond vid (store_by μ c a x d (find (λ p l. is_owner x a l) μ)) (store_plain_by μ c x d (find (λ p l. is_owner x a l) μ))

@@ -1,14 +1,15 @@
-// The types of the machine, of its steps and of their answers.
+// The types of the machine, of its steps and of their answers, and what a state, a line and an answer tell of themselves.
 //
 // Document 01's rules over these types are the definitions in specs/, a file a heading; the laws about them are in proofs/.
-// The two functions here are proved, and the crate assumes nothing.
+// Every function here is proved to give what its definition says, has no `requires`, and the crate assumes nothing.
 #![tactic(auto)]
 
-ghost use Rattle.std.specs.Prelude.{◌≡◌};
-ghost use Rattle.rules.specs.Answer.{number_of, letter_of};
+mod answers;
+mod classes;
+mod hitting;
 
 // I; plain M, O, E, S; speculative S-M, S-O, S-E, S-S.
-#[derive(Clone, Copy)]
+#[derive(Clone, Copy, PartialEq, Eq)]
 pub enum State {
     I,
     M,
@@ -22,7 +23,7 @@ pub enum State {
 }
 
 // One slot: a state, an address, a modified VID m, a high VID h and a word.
-#[derive(Clone, Copy)]
+#[derive(Clone, Copy, PartialEq, Eq)]
 pub struct Line {
     pub state: State,
     pub address: u16,
@@ -46,28 +47,21 @@ pub struct Machine {
 }
 
 // Where a line stands.
-#[derive(Clone, Copy)]
+#[derive(Clone, Copy, PartialEq, Eq)]
 pub struct Pos {
     pub cache: usize,
     pub slot: usize,
 }
 
-// What a search over all lines finds.
+// A line, and where it stands.
 #[derive(Clone, Copy)]
-pub enum Found {
-    At(Pos),
-    Nowhere,
-}
-
-// The lowest free slot of a cache.
-#[derive(Clone, Copy)]
-pub enum Room {
-    Slot(usize),
-    Full,
+pub struct Held {
+    pub place: Pos,
+    pub line: Line,
 }
 
 // The six steps. `at` is an address, `data` the word to store.
-#[derive(Clone, Copy)]
+#[derive(Clone, Copy, PartialEq, Eq)]
 pub enum Op {
     Load {
         cache: usize,
@@ -91,18 +85,18 @@ pub enum Op {
     },
 }
 
-// What is wrong with an unreadable line, in the order of request 2026-01's list: `letter` gives the letter behind the 12.
-#[derive(Clone, Copy)]
+// What is wrong with an unreadable line, in the order of request 2026-01's list: `letter` gives the letter behind the 12, `a` to `e`.
+#[derive(Clone, Copy, PartialEq, Eq)]
 pub enum Fault {
-    WrongKey,
-    BadNumber,
-    NumberTooLarge,
-    KeyNotZero,
-    NoLineEnd,
+    WrongKey = 97,
+    BadNumber = 98,
+    NumberTooLarge = 99,
+    KeyNotZero = 100,
+    NoLineEnd = 101,
 }
 
 // Why a call is refused, in the order of document 01's table: `number` gives the number there. A line that is unreadable is so from a column on, which has 32 bits: with 64 every answer would be half as long again.
-#[derive(Clone, Copy)]
+#[derive(Clone, Copy, PartialEq, Eq)]
 pub enum Reason {
     CacheCount,
     NotSound,
@@ -120,7 +114,7 @@ pub enum Reason {
     TextTooLong,
 }
 
-#[derive(Clone, Copy)]
+#[derive(Clone, Copy, PartialEq, Eq)]
 pub enum Answer {
     Value(u64),
     Done,
@@ -134,39 +128,4 @@ pub enum Answer {
 pub struct Answered {
     pub answer: Answer,
     pub machine: Machine,
-}
-
-// Document 01's number of a refusal, and 14 of request 2026-01.
-pub fn number(reason: Reason) -> u64
-    ensures { result ≡ number_of reason }
-{
-    match reason {
-        Reason::CacheCount => 1,
-        Reason::NotSound => 2,
-        Reason::NoSuchCache => 3,
-        Reason::AddressTooLarge => 4,
-        Reason::SlotTooLarge => 5,
-        Reason::VidTooLarge => 6,
-        Reason::VidPast => 7,
-        Reason::VidNotNext => 8,
-        Reason::NotSettled => 9,
-        Reason::SlotEmpty => 10,
-        Reason::NoRoom => 11,
-        Reason::Unreadable(_, _) => 12,
-        Reason::NoFit => 13,
-        Reason::TextTooLong => 14,
-    }
-}
-
-// The letter of a fault, `a` to `e`.
-pub fn letter(fault: Fault) -> u8
-    ensures { result ≡ letter_of fault }
-{
-    match fault {
-        Fault::WrongKey => 97,
-        Fault::BadNumber => 98,
-        Fault::NumberTooLarge => 99,
-        Fault::KeyNotZero => 100,
-        Fault::NoLineEnd => 101,
-    }
 }

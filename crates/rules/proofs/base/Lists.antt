@@ -6,23 +6,20 @@ use mathlib.Core.List.{List, [], ◌∷◌}
 use Prim.Native.Nat.{ℕ, zero, suc, ◌<◌, zero-le, suc-le-suc}
 use native.Mathlib.Nat.{le_of_suc-le-suc, not-suc-le-zero}
 use lib.ListN.{length, get_or}
+use Rattle.std.specs.Prelude.{Option, Some, None}
 use Rattle.rules.specs.declared.Pos.{Pos}
-use Rattle.rules.specs.declared.Found.{Found}
-use Rattle.rules.specs.declared.Found.TheVariants.{At, Nowhere}
-use Rattle.rules.specs.declared.Room.{Room}
-use Rattle.rules.specs.declared.Room.TheVariants.{Slot, Full}
 use Rattle.rules.specs.Lists.{one_on, or_else, map_at, all_at, first_at, first_found}
 use Rattle.rules.proofs.base.Bools.{left, right, both}
 
 -- what a search among n elements found: it passes; or none passes
-abbrev FoundBy : (ℕ → Bool) → ℕ → Room → Type 0
-FoundBy t n (Slot i) = (i < n) × (t i ≡ true)
-FoundBy t n Full = (i : ℕ) → i < n → t i ≡ false
+abbrev FoundBy : (ℕ → Bool) → ℕ → Option ℕ → Type 0
+FoundBy t n (Some i) = (i < n) × (t i ≡ true)
+FoundBy t n None = (i : ℕ) → i < n → t i ≡ false
 
 -- what a search in each of n elements found: one finds it; or none finds anything
-abbrev FoundIn : (ℕ → Found) → ℕ → Found → Type 0
-FoundIn k n (At p) = (i : ℕ) × (i < n) × (k i ≡ At p)
-FoundIn k n Nowhere = (i : ℕ) → i < n → k i ≡ Nowhere
+abbrev FoundIn : (ℕ → Option Pos) → ℕ → Option Pos → Type 0
+FoundIn k n (Some p) = (i : ℕ) × (i < n) × (k i ≡ Some p)
+FoundIn k n None = (i : ℕ) → i < n → k i ≡ None
 
 module _ {A : Type 0} where
   pub length_map : (k : ℕ → A → A) (l : List A) → length (map_at k l) ≡ length l
@@ -55,37 +52,37 @@ module _ {A : Type 0} where
   first_by k [] d = λ i h. absurd (not-suc-le-zero h)
   first_by k (x ∷ l) d = go (k 0 x) refl (first_at (λ i. k (suc i)) l) (first_by (λ i. k (suc i)) l d)
     where
-      go : (b : Bool) → k 0 x ≡ b → (r : Room) → FoundBy (λ i. k (suc i) (get_or l i d)) (length l) r → FoundBy (λ i. k i (get_or (x ∷ l) i d)) (suc (length l)) (cond b (Slot 0) (one_on r))
+      go : (b : Bool) → k 0 x ≡ b → (r : Option ℕ) → FoundBy (λ i. k (suc i) (get_or l i d)) (length l) r → FoundBy (λ i. k i (get_or (x ∷ l) i d)) (suc (length l)) (cond b (Some 0) (one_on r))
       go true e r h = (suc-le-suc zero-le, e)
-      go false e (Slot i) h = (suc-le-suc h.0, h.1)
-      go false e Full h = none
+      go false e (Some i) h = (suc-le-suc h.0, h.1)
+      go false e None h = none
         where
           none : (i : ℕ) → i < suc (length l) → k i (get_or (x ∷ l) i d) ≡ false
           none zero q = e
           none (suc i) q = h i (le_of_suc-le-suc q)
 
-  pub first_some : (k : ℕ → A → Bool) (l : List A) (d : A) (n : ℕ) → first_at k l ≡ Slot n → (n < length l) × (k n (get_or l n d) ≡ true)
+  pub first_some : (k : ℕ → A → Bool) (l : List A) (d : A) (n : ℕ) → first_at k l ≡ Some n → (n < length l) × (k n (get_or l n d) ≡ true)
   first_some k l d n e = subst (FoundBy (λ i. k i (get_or l i d)) (length l)) e (first_by k l d)
 
-  pub first_none : (k : ℕ → A → Bool) (l : List A) (d : A) → first_at k l ≡ Full → (n : ℕ) → n < length l → k n (get_or l n d) ≡ false
+  pub first_none : (k : ℕ → A → Bool) (l : List A) (d : A) → first_at k l ≡ None → (n : ℕ) → n < length l → k n (get_or l n d) ≡ false
   first_none k l d e = subst (FoundBy (λ i. k i (get_or l i d)) (length l)) e (first_by k l d)
 
-  found_by : (k : ℕ → A → Found) (l : List A) (d : A) → FoundIn (λ i. k i (get_or l i d)) (length l) (first_found k l)
+  found_by : (k : ℕ → A → Option Pos) (l : List A) (d : A) → FoundIn (λ i. k i (get_or l i d)) (length l) (first_found k l)
   unfolding first_found
   found_by k [] d = λ i h. absurd (not-suc-le-zero h)
   found_by k (x ∷ l) d = go (k 0 x) refl (first_found (λ i. k (suc i)) l) (found_by (λ i. k (suc i)) l d)
     where
-      go : (b : Found) → k 0 x ≡ b → (r : Found) → FoundIn (λ i. k (suc i) (get_or l i d)) (length l) r → FoundIn (λ i. k i (get_or (x ∷ l) i d)) (suc (length l)) (or_else b r)
-      go (At p) e r h = (0, suc-le-suc zero-le, e)
-      go Nowhere e (At p) (i, h, f) = (suc i, suc-le-suc h, f)
-      go Nowhere e Nowhere h = none
+      go : (b : Option Pos) → k 0 x ≡ b → (r : Option Pos) → FoundIn (λ i. k (suc i) (get_or l i d)) (length l) r → FoundIn (λ i. k i (get_or (x ∷ l) i d)) (suc (length l)) (or_else b r)
+      go (Some p) e r h = (0, suc-le-suc zero-le, e)
+      go None e (Some p) (i, h, f) = (suc i, suc-le-suc h, f)
+      go None e None h = none
         where
-          none : (i : ℕ) → i < suc (length l) → k i (get_or (x ∷ l) i d) ≡ Nowhere
+          none : (i : ℕ) → i < suc (length l) → k i (get_or (x ∷ l) i d) ≡ None
           none zero q = e
           none (suc i) q = h i (le_of_suc-le-suc q)
 
-  pub found_some : (k : ℕ → A → Found) (l : List A) (d : A) (p : Pos) → first_found k l ≡ At p → (i : ℕ) × (i < length l) × (k i (get_or l i d) ≡ At p)
+  pub found_some : (k : ℕ → A → Option Pos) (l : List A) (d : A) (p : Pos) → first_found k l ≡ Some p → (i : ℕ) × (i < length l) × (k i (get_or l i d) ≡ Some p)
   found_some k l d p e = subst (FoundIn (λ i. k i (get_or l i d)) (length l)) e (found_by k l d)
 
-  pub found_none : (k : ℕ → A → Found) (l : List A) (d : A) → first_found k l ≡ Nowhere → (i : ℕ) → i < length l → k i (get_or l i d) ≡ Nowhere
+  pub found_none : (k : ℕ → A → Option Pos) (l : List A) (d : A) → first_found k l ≡ None → (i : ℕ) → i < length l → k i (get_or l i d) ≡ None
   found_none k l d e = subst (FoundIn (λ i. k i (get_or l i d)) (length l)) e (found_by k l d)

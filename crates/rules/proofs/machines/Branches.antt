@@ -6,14 +6,11 @@ use mathlib.Core.Bool.{Bool, true, false, cond, ◌&&◌}
 use Prim.Native.Nat.{ℕ, ◌≤◌}
 use lib.Dec.{leb, eqb}
 use borrow.Author.Tests.{eqb-true, eqb-false, leb-true}
+use Rattle.std.specs.Prelude.{Option, Some, None}
 use Rattle.rules.specs.declared.State.TheVariants.{M, E, S, SM, SO, SE}
 use Rattle.rules.specs.declared.Line.{Line}
 use Rattle.rules.specs.declared.Machine.{Machine}
 use Rattle.rules.specs.declared.Pos.{Pos}
-use Rattle.rules.specs.declared.Found.{Found}
-use Rattle.rules.specs.declared.Found.TheVariants.{At, Nowhere}
-use Rattle.rules.specs.declared.Room.{Room}
-use Rattle.rules.specs.declared.Room.TheVariants.{Slot, Full}
 use Rattle.rules.specs.declared.Answer.{Answer}
 use Rattle.rules.specs.declared.Answer.TheVariants.{Value, Done, Misspec, Overflow, Refused}
 use Rattle.rules.specs.declared.Reason.TheVariants.{NoRoom}
@@ -34,23 +31,23 @@ use Rattle.rules.proofs.machines.View.{empty_owner, empty_plain}
 -- ---- placing
 
 module _ (P : Answered → Type 0) (μ : Machine) (r : Answer) (c : ℕ) where
-  pub place_cases : (l : Line) (δ : Machine) → ((e : ℕ) → free_slot δ c ≡ Slot e → P (gives r (put (pos c e) l δ))) → P (gives (Refused NoRoom) μ) → P (place μ r c l δ)
+  pub place_cases : (l : Line) (δ : Machine) → ((e : ℕ) → free_slot δ c ≡ Some e → P (gives r (put (pos c e) l δ))) → P (gives (Refused NoRoom) μ) → P (place μ r c l δ)
   unfolding place
   place_cases l δ some none = go (free_slot δ c) refl
     where
-      go : (z : Room) → free_slot δ c ≡ z → P (placed_in μ r c l δ z)
-      go (Slot e) q = some e q
-      go Full q = none
+      go : (z : Option ℕ) → free_slot δ c ≡ z → P (placed_in μ r c l δ z)
+      go (Some e) q = some e q
+      go None q = none
 
   pub place_two_cases : (k l : Line) (δ : Machine)
-      → ((e f : ℕ) → free_slot δ c ≡ Slot e → free_slot (put (pos c e) k δ) c ≡ Slot f → P (gives r (put (pos c f) l (put (pos c e) k δ)))) → P (gives (Refused NoRoom) μ) →
+      → ((e f : ℕ) → free_slot δ c ≡ Some e → free_slot (put (pos c e) k δ) c ≡ Some f → P (gives r (put (pos c f) l (put (pos c e) k δ)))) → P (gives (Refused NoRoom) μ) →
       P (place_two μ r c k l δ)
   unfolding place_two
   place_two_cases k l δ some none = go (free_slot δ c) refl
     where
-      go : (z : Room) → free_slot δ c ≡ z → P (placed_two_in μ r c k l δ z)
-      go (Slot e) q = place_cases l (put (pos c e) k δ) (λ f j. some e f q j) none
-      go Full q = none
+      go : (z : Option ℕ) → free_slot δ c ≡ z → P (placed_two_in μ r c k l δ z)
+      go (Some e) q = place_cases l (put (pos c e) k δ) (λ f j. some e f q j) none
+      go None q = none
 
 -- ---- load
 
@@ -61,17 +58,17 @@ pub record LoadBranches (μ : Machine) (vid : Bool) (c a x i : ℕ) (P : Answere
   -- the asker holds the owner; an S-S of its own that hits; or it places one
   pub owner : (o : Pos) → is_owner x a (at μ o) ≡ true → P (gives (value_of (at μ o) i) (after_read μ vid a o))
   pub share : (q : Pos) → is_own_share c x a q (at μ q) ≡ true → P (gives (value_of (at μ q) i) μ)
-  pub copy : (o : Pos) → is_owner x a (at μ o) ≡ true → o.cache ≢ c → (e : ℕ) → free_slot (without_stale μ vid c a x o) c ≡ Slot e
+  pub copy : (o : Pos) → is_owner x a (at μ o) ≡ true → o.cache ≢ c → (e : ℕ) → free_slot (without_stale μ vid c a x o) c ≡ Some e
       → P (gives (value_of (at μ o) i) (put (pos c e) (share_line x a (at μ o)) (without_stale μ vid c a x o)))
   -- with a VID, otherwise
-  pub first : vid ≡ true → Unowned μ x a → (e : ℕ) → free_slot (drop (is_of x) μ) c ≡ Slot e
+  pub first : vid ≡ true → Unowned μ x a → (e : ℕ) → free_slot (drop (is_of x) μ) c ≡ Some e
       → P (gives (Value (read (plain_data μ x) i)) (put (pos c e) (line (cond (is_dirty μ x) SM SE) x 0 a (plain_data μ x)) (drop (is_of x) μ)))
   -- plain, otherwise: the asker holds a plain line; another cache does; none
   pub held : vid ≡ false → Unowned μ x a → (q : Pos) → is_plain x (at μ q) ≡ true → P (gives (value_of (at μ q) i) μ)
   pub shared : vid ≡ false → Unowned μ x a → ((p : Pos) → (eqb p.cache c && is_plain x (at μ p)) ≡ false) → (q : Pos) → is_plain x (at μ q) ≡ true
-      → (e : ℕ) → free_slot (change (λ p l. demote_line x l) μ) c ≡ Slot e → P (gives (value_of (at μ q) i)
+      → (e : ℕ) → free_slot (change (λ p l. demote_line x l) μ) c ≡ Some e → P (gives (value_of (at μ q) i)
       (put (pos c e) (line S x 0 0 (at μ q).word) (change (λ p l. demote_line x l) μ)))
-  pub fetched : vid ≡ false → Unowned μ x a → ((p : Pos) → is_plain x (at μ p) ≡ false) → (e : ℕ) → free_slot μ c ≡ Slot e
+  pub fetched : vid ≡ false → Unowned μ x a → ((p : Pos) → is_plain x (at μ p) ≡ false) → (e : ℕ) → free_slot μ c ≡ Some e
       → P (gives (Value (read (memory_at μ x) i)) (put (pos c e) (line E x 0 0 (memory_at μ x)) μ))
   pub full : P (gives (Refused NoRoom) μ)
 
@@ -79,9 +76,9 @@ pub load_cases : (P : Answered → Type 0) (μ : Machine) (vid : Bool) (c a x i 
 unfolding load_of
 load_cases P μ vid c a x i B = go (find (λ p l. is_owner x a l) μ) refl
   where
-    away : (o : Pos) → is_owner x a (at μ o) ≡ true → o.cache ≢ c → (r : Found) → find (is_own_share c x a) μ ≡ r → P (load_away μ vid c a x i o r)
-    away o is n (At q) e = B.share q (find_some (is_own_share c x a) μ q e)
-    away o is n Nowhere e = place_cases P μ (value_of (at μ o) i) c _ (without_stale μ vid c a x o) (B.copy o is n) B.full
+    away : (o : Pos) → is_owner x a (at μ o) ≡ true → o.cache ≢ c → (r : Option Pos) → find (is_own_share c x a) μ ≡ r → P (load_away μ vid c a x i o r)
+    away o is n (Some q) e = B.share q (find_some (is_own_share c x a) μ q e)
+    away o is n None e = place_cases P μ (value_of (at μ o) i) c _ (without_stale μ vid c a x o) (B.copy o is n) B.full
 
     owned : (o : Pos) → is_owner x a (at μ o) ≡ true → P (load_owned μ vid c a x i o)
     owned o is = unfold load_owned in by_test (eqb o.cache c) (λ j. rw j (B.owner o is)) (λ j. rw j (away o is (eqb-false o.cache c j) (find (is_own_share c x a) μ) refl))
@@ -89,19 +86,19 @@ load_cases P μ vid c a x i B = go (find (λ p l. is_owner x a l) μ) refl
     first : Unowned μ x a → vid ≡ true → P (load_new μ c a x i)
     first none v = unfold load_new in place_cases P μ _ c _ (drop (is_of x) μ) (B.first v none) B.full
 
-    cached : Unowned μ x a → vid ≡ false → ((p : Pos) → (eqb p.cache c && is_plain x (at μ p)) ≡ false) → (r : Found) → find (λ p l. is_plain x l) μ ≡ r → P (load_cached μ c x i r)
-    cached none v own (At q) e = place_cases P μ _ c _ (change (λ p l. demote_line x l) μ) (B.shared v none own q (find_some (λ p l. is_plain x l) μ q e)) B.full
-    cached none v own Nowhere e = place_cases P μ _ c _ μ (B.fetched v none (find_none (λ p l. is_plain x l) μ (λ q. empty_plain x) e)) B.full
+    cached : Unowned μ x a → vid ≡ false → ((p : Pos) → (eqb p.cache c && is_plain x (at μ p)) ≡ false) → (r : Option Pos) → find (λ p l. is_plain x l) μ ≡ r → P (load_cached μ c x i r)
+    cached none v own (Some q) e = place_cases P μ _ c _ (change (λ p l. demote_line x l) μ) (B.shared v none own q (find_some (λ p l. is_plain x l) μ q e)) B.full
+    cached none v own None e = place_cases P μ _ c _ μ (B.fetched v none (find_none (λ p l. is_plain x l) μ (λ q. empty_plain x) e)) B.full
 
-    plainly : Unowned μ x a → vid ≡ false → (r : Found) → find (λ p l. eqb p.cache c && is_plain x l) μ ≡ r → P (load_plain μ c x i r)
-    plainly none v (At q) e = B.held v none q (right (eqb q.cache c) (is_plain x (at μ q)) (find_some (λ p l. eqb p.cache c && is_plain x l) μ q e))
-    plainly none v Nowhere e =
+    plainly : Unowned μ x a → vid ≡ false → (r : Option Pos) → find (λ p l. eqb p.cache c && is_plain x l) μ ≡ r → P (load_plain μ c x i r)
+    plainly none v (Some q) e = B.held v none q (right (eqb q.cache c) (is_plain x (at μ q)) (find_some (λ p l. eqb p.cache c && is_plain x l) μ q e))
+    plainly none v None e =
         cached none v (find_none (λ p l. eqb p.cache c && is_plain x l) μ (λ q. by_test (eqb q.cache c) (λ j. rw (j, empty_plain x)) (λ j. rw j)) e)
         (find (λ p l. is_plain x l) μ) refl
 
-    go : (r : Found) → find (λ p l. is_owner x a l) μ ≡ r → P (load_by μ vid c a x i r)
-    go (At o) e = owned o (find_some (λ p l. is_owner x a l) μ o e)
-    go Nowhere e =
+    go : (r : Option Pos) → find (λ p l. is_owner x a l) μ ≡ r → P (load_by μ vid c a x i r)
+    go (Some o) e = owned o (find_some (λ p l. is_owner x a l) μ o e)
+    go None e =
         let none = find_none (λ p l. is_owner x a l) μ (λ q. empty_owner x a) e in
         by_test vid (λ v. rw v (first none v)) (λ v. rw v (plainly none v (find (λ p l. eqb p.cache c && is_plain x l) μ) refl))
 
@@ -110,16 +107,16 @@ load_cases P μ vid c a x i B = go (find (λ p l. is_owner x a l) μ) refl
 pub record StoreBranches (μ : Machine) (vid : Bool) (c a x : ℕ) (d : Data) (P : Answered → Type 0) : Type 0 where
   pub misspec : (o : Pos) → is_owner x a (at μ o) ≡ true → P (gives Misspec (abort_of μ))
   -- with a VID: over the owner, which is the store's own version; above it; where there is none
-  pub over : vid ≡ true → (o : Pos) → is_owner x a (at μ o) ≡ true → misspeculates a (at μ o) ≡ false → (at μ o).m ≡ a → (e : ℕ) → free_slot (put o empty (bared μ x o)) c ≡ Slot e
+  pub over : vid ≡ true → (o : Pos) → is_owner x a (at μ o) ≡ true → misspeculates a (at μ o) ≡ false → (at μ o).m ≡ a → (e : ℕ) → free_slot (put o empty (bared μ x o)) c ≡ Some e
       → P (gives Done (put (pos c e) (version x a d) (put o empty (bared μ x o))))
   pub split : vid ≡ true → (o : Pos) → is_owner x a (at μ o) ≡ true → misspeculates a (at μ o) ≡ false → (is_sm (at μ o).state && eqb a (at μ o).m) ≡ false
-      → (e : ℕ) → free_slot (put o (closed a (at μ o)) (bared μ x o)) c ≡ Slot e → P (gives Done (put (pos c e) (version x a d) (put o (closed a (at μ o)) (bared μ x o))))
-  pub first : vid ≡ true → Unowned μ x a → (e f : ℕ) → free_slot (drop (is_of x) μ) c ≡ Slot e → free_slot (put (pos c e) (line SO x 0 a (plain_data μ x)) (drop (is_of x) μ)) c ≡ Slot f
+      → (e : ℕ) → free_slot (put o (closed a (at μ o)) (bared μ x o)) c ≡ Some e → P (gives Done (put (pos c e) (version x a d) (put o (closed a (at μ o)) (bared μ x o))))
+  pub first : vid ≡ true → Unowned μ x a → (e f : ℕ) → free_slot (drop (is_of x) μ) c ≡ Some e → free_slot (put (pos c e) (line SO x 0 a (plain_data μ x)) (drop (is_of x) μ)) c ≡ Some f
       → P (gives Done (put (pos c f) (version x a d) (put (pos c e) (line SO x 0 a (plain_data μ x)) (drop (is_of x) μ))))
   -- plain: a settled owner, or none
-  pub plain_owned : vid ≡ false → (o : Pos) → is_owner x a (at μ o) ≡ true → misspeculates_plain μ (at μ o) ≡ false → (e : ℕ) → free_slot (drop (is_of x) μ) c ≡ Slot e
+  pub plain_owned : vid ≡ false → (o : Pos) → is_owner x a (at μ o) ≡ true → misspeculates_plain μ (at μ o) ≡ false → (e : ℕ) → free_slot (drop (is_of x) μ) c ≡ Some e
       → P (gives Done (put (pos c e) (line M x 0 0 d) (drop (is_of x) μ)))
-  pub plain_unowned : vid ≡ false → Unowned μ x a → (e : ℕ) → free_slot (drop (is_of x) μ) c ≡ Slot e → P (gives Done (put (pos c e) (line M x 0 0 d) (drop (is_of x) μ)))
+  pub plain_unowned : vid ≡ false → Unowned μ x a → (e : ℕ) → free_slot (drop (is_of x) μ) c ≡ Some e → P (gives Done (put (pos c e) (line M x 0 0 d) (drop (is_of x) μ)))
   pub full : P (gives (Refused NoRoom) μ)
 
 pub store_cases : (P : Answered → Type 0) (μ : Machine) (vid : Bool) (c a x : ℕ) (d : Data) → StoreBranches μ vid c a x d P → P (store_of μ vid c a x d)
@@ -139,16 +136,16 @@ store_cases P μ vid c a x d B = by_test vid (λ v. rw v (with_vid v (find (λ p
         own : (is_sm (at μ o).state && eqb a (at μ o).m) ≡ true → (at μ o).m ≡ a
         own j = let e : a ≡ (at μ o).m = eqb-true a (at μ o).m (right (is_sm (at μ o).state) (eqb a (at μ o).m) j) in cc e
 
-    with_vid : vid ≡ true → (r : Found) → find (λ p l. is_owner x a l) μ ≡ r → P (store_by μ c a x d r)
-    with_vid v (At o) e = owned v o (find_some (λ p l. is_owner x a l) μ o e)
-    with_vid v Nowhere e = unfold store_new in place_two_cases P μ Done c _ _ (drop (is_of x) μ) (B.first v (find_none (λ p l. is_owner x a l) μ (λ q. empty_owner x a) e)) B.full
+    with_vid : vid ≡ true → (r : Option Pos) → find (λ p l. is_owner x a l) μ ≡ r → P (store_by μ c a x d r)
+    with_vid v (Some o) e = owned v o (find_some (λ p l. is_owner x a l) μ o e)
+    with_vid v None e = unfold store_new in place_two_cases P μ Done c _ _ (drop (is_of x) μ) (B.first v (find_none (λ p l. is_owner x a l) μ (λ q. empty_owner x a) e)) B.full
 
-    plainly : vid ≡ false → (r : Found) → find (λ p l. is_owner x a l) μ ≡ r → P (store_plain_by μ c x d r)
-    plainly v (At o) e =
+    plainly : vid ≡ false → (r : Option Pos) → find (λ p l. is_owner x a l) μ ≡ r → P (store_plain_by μ c x d r)
+    plainly v (Some o) e =
         let is = find_some (λ p l. is_owner x a l) μ o e in
         by_test (misspeculates_plain μ (at μ o)) (λ n. rw n (B.misspec o is))
         (λ n. rw n (unfold store_m in place_cases P μ Done c _ (drop (is_of x) μ) (B.plain_owned v o is n) B.full))
-    plainly v Nowhere e = unfold store_m in place_cases P μ Done c _ (drop (is_of x) μ) (B.plain_unowned v (find_none (λ p l. is_owner x a l) μ (λ q. empty_owner x a) e)) B.full
+    plainly v None e = unfold store_m in place_cases P μ Done c _ (drop (is_of x) μ) (B.plain_unowned v (find_none (λ p l. is_owner x a l) μ (λ q. empty_owner x a) e)) B.full
 
 -- ---- evict a slot that is not empty
 

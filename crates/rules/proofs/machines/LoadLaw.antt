@@ -7,12 +7,12 @@ use Prim.Native.Nat.{ℕ, ◌≤◌, ◌<◌, max}
 use native.Mathlib.Omega.{arith}
 use lib.Dec.{eqb}
 use lib.ListN.{length}
+use Rattle.std.specs.Prelude.{Some}
 use Rattle.rules.specs.declared.State.{State}
 use Rattle.rules.specs.declared.State.TheVariants.{O, E, S, SM, SE}
 use Rattle.rules.specs.declared.Line.{Line}
 use Rattle.rules.specs.declared.Machine.{Machine}
 use Rattle.rules.specs.declared.Pos.{Pos}
-use Rattle.rules.specs.declared.Room.TheVariants.{Slot}
 use Rattle.rules.specs.declared.Answer.TheVariants.{Value, Refused}
 use Rattle.rules.specs.declared.Reason.TheVariants.{NoRoom}
 use Rattle.rules.specs.declared.Answered.{Answered}
@@ -140,7 +140,7 @@ module _ {N : ℕ} {μ : Machine} (s : Sound N μ) (vid : Bool) (c a x i : ℕ) 
           go (inr t) = (p, own.1, (t, omega (arith, in_q, y.reach)))
 
   -- the owner is read, stale S-S lines drop, and S-S is placed
-  copied : (o : Pos) → is_owner x a (at μ o) ≡ true → o.cache ≢ c → (e : ℕ) → free_slot (without_stale μ vid c a x o) c ≡ Slot e
+  copied : (o : Pos) → is_owner x a (at μ o) ≡ true → o.cache ≢ c → (e : ℕ) → free_slot (without_stale μ vid c a x o) c ≡ Some e
       → Ok (gives (Value (read (at μ o).word i)) (put (pos c e) (share_line x a (at μ o)) (without_stale μ vid c a x o)))
   copied o is away e slot =
       returns (at μ o).word _ (owner_view s x a up o O) (keeps_keeps R.keeps placed)
@@ -166,7 +166,7 @@ module _ {N : ℕ} {μ : Machine} (s : Sound N μ) (vid : Bool) (c a x i : ℕ) 
 
   -- ---- no owner, so no speculative line lives
 
-  first : vid ≡ true → Unowned μ x a → (e : ℕ) → free_slot (drop (is_of x) μ) c ≡ Slot e
+  first : vid ≡ true → Unowned μ x a → (e : ℕ) → free_slot (drop (is_of x) μ) c ≡ Some e
       → Ok (gives (Value (read (plain_data μ x) i)) (put (pos c e) (line (cond (is_dirty μ x) SM SE) x 0 a (plain_data μ x)) (drop (is_of x) μ)))
   first v none e slot = by_test (is_dirty μ x) (λ j. rw j (go SM refl (λ k. absurd (false≢true k)))) (λ j. rw j (go SE refl (λ k. seen ∙ clean_memory s x a up quiet j)))
     where
@@ -213,11 +213,11 @@ module _ {N : ℕ} {μ : Machine} (s : Sound N μ) (vid : Bool) (c a x i : ℕ) 
 
   -- M becomes O, E becomes S, and S is placed beside them
   shared : vid ≡ false → Unowned μ x a → ((p : Pos) → (eqb p.cache c && is_plain x (at μ p)) ≡ false) → (q : Pos) → is_plain x (at μ q) ≡ true
-      → (e : ℕ) → free_slot (change (λ p l. demote_line x l) μ) c ≡ Slot e → Ok
+      → (e : ℕ) → free_slot (change (λ p l. demote_line x l) μ) c ≡ Some e → Ok
       (gives (Value (read (at μ q).word i)) (put (pos c e) (line S x 0 0 (at μ q).word) (change (λ p l. demote_line x l) μ)))
   shared v none own q is e slot = returns (at μ q).word _ (plain_word none q is) (shared_placed s c a x e q in_range is own slot) (unmarked v)
 
-  fetched : vid ≡ false → Unowned μ x a → ((p : Pos) → is_plain x (at μ p) ≡ false) → (e : ℕ) → free_slot μ c ≡ Slot e
+  fetched : vid ≡ false → Unowned μ x a → ((p : Pos) → is_plain x (at μ p) ≡ false) → (e : ℕ) → free_slot μ c ≡ Some e
       → Ok (gives (Value (read (memory_at μ x) i)) (put (pos c e) (line E x 0 0 (memory_at μ x)) μ))
   fetched v none bare e slot = returns (memory_at μ x) ν (sym (view_is s x a up (memory_at μ x) (from_memory (λ p h. absurd (no_line p h)) refl))) K (unmarked v)
     where

@@ -7,10 +7,10 @@ use Prim.Native.Nat.{ℕ, ◌<◌}
 use native.Mathlib.Decide.{ℕ_discrete}
 use lib.ListN.{length, length-set}
 use lib.Seq.{get_or-set_same, get_or-set_other}
+use Rattle.std.specs.Prelude.{Some}
 use Rattle.rules.specs.declared.Line.{Line}
 use Rattle.rules.specs.declared.Machine.{Machine}
 use Rattle.rules.specs.declared.Pos.{Pos}
-use Rattle.rules.specs.declared.Room.TheVariants.{Slot}
 use Rattle.rules.specs.Data.{Data, no_data}
 use Rattle.rules.specs.Line.{empty, live}
 use Rattle.rules.specs.Machine.{pos, at, memory_at, change, drop, put, write, free_slot}
@@ -49,7 +49,7 @@ put_width μ p l = length-set μ.caches p.cache _
 
 -- ---- a line placed in the free slot e of cache c
 
-module _ (δ : Machine) (c e : ℕ) (l : Line) (slot : free_slot δ c ≡ Slot e) (in_range : c < length δ.caches) where
+module _ (δ : Machine) (c e : ℕ) (l : Line) (slot : free_slot δ c ≡ Some e) (in_range : c < length δ.caches) where
   pub placed_new : at (put (pos c e) l δ) (pos c e) ≡ l
   placed_new = at_put_same δ (pos c e) l (free_within δ c e slot in_range).0
 

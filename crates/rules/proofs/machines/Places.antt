@@ -10,14 +10,11 @@ use native.Mathlib.Decide.{dec_lt, ℕ_discrete}
 use lib.ListN.{length, get_or, set, get_or-eq_default}
 use lib.Seq.{get_or-set_same, get_or-set_other, set_out}
 use borrow.Author.Tests.{not-true}
+use Rattle.std.specs.Prelude.{Option, Some, None}
 use Rattle.rules.specs.declared.Line.{Line}
 use Rattle.rules.specs.declared.Cache.{Cache}
 use Rattle.rules.specs.declared.Machine.{Machine}
 use Rattle.rules.specs.declared.Pos.{Pos}
-use Rattle.rules.specs.declared.Found.{Found}
-use Rattle.rules.specs.declared.Found.TheVariants.{At, Nowhere}
-use Rattle.rules.specs.declared.Room.{Room}
-use Rattle.rules.specs.declared.Room.TheVariants.{Slot, Full}
 use Rattle.rules.specs.Line.{empty, live}
 use Rattle.rules.specs.Lists.{map_at, all_at, first_at}
 use Rattle.rules.specs.Machine.{pos, no_cache, at, change, drop, put, in_cache, find, is_found, any_line, all_lines, free_slot}
@@ -27,19 +24,19 @@ use Rattle.rules.proofs.base.Lists.{get_d_map, all_at_lem, all_of, first_some, f
 use Rattle.rules.proofs.base.Lines.{pos_dec}
 
 -- what a search found is a place or none
-is_at : Found → Bool
-is_at (At p) = true
-is_at Nowhere = false
+is_at : Option Pos → Bool
+is_at (Some p) = true
+is_at None = false
 
-at_not_nowhere : {P : Type 0} {p : Pos} → At p ≡ Nowhere → P
+at_not_nowhere : {P : Type 0} {p : Pos} → Some p ≡ None → P
 unfolding is_at
 at_not_nowhere e = absurd (true≢false (ap is_at e))
 
-place_of : Found → Pos
-place_of (At p) = p
-place_of Nowhere = pos 0 0
+place_of : Option Pos → Pos
+place_of (Some p) = p
+place_of None = pos 0 0
 
-at_is : {p q : Pos} → At p ≡ At q → p ≡ q
+at_is : {p q : Pos} → Some p ≡ Some q → p ≡ q
 unfolding place_of
 at_is e = ap place_of e
 
@@ -120,25 +117,25 @@ at_put_any μ p q l = go (pos_dec q p) (dec_lt p.cache (length μ.caches)) (dec_
 -- ---- a search
 
 -- what is found passes
-pub find_some : (t : Pos → Line → Bool) (μ : Machine) (p : Pos) → find t μ ≡ At p → t p (at μ p) ≡ true
+pub find_some : (t : Pos → Line → Bool) (μ : Machine) (p : Pos) → find t μ ≡ Some p → t p (at μ p) ≡ true
 unfolding find at
 find_some t μ p e =
     let (c, h, d) = found_some (λ c h. in_cache c (first_at (λ s l. t (pos c s) l) h.lines)) μ.caches no_cache p e in
     go c (first_at (λ s l. t (pos c s) l) (lines_of μ c)) refl d
   where
-    go : (c : ℕ) (r : Room) → first_at (λ s l. t (pos c s) l) (lines_of μ c) ≡ r → in_cache c r ≡ At p → t p (get_or (lines_of μ p.cache) p.slot empty) ≡ true
-    go c (Slot s) q d = let z : pos c s ≡ p = at_is d in rw (← z) (first_some (λ s l. t (pos c s) l) (lines_of μ c) empty s q).1
-    go c Full q d = at_not_nowhere (sym d)
+    go : (c : ℕ) (r : Option ℕ) → first_at (λ s l. t (pos c s) l) (lines_of μ c) ≡ r → in_cache c r ≡ Some p → t p (get_or (lines_of μ p.cache) p.slot empty) ≡ true
+    go c (Some s) q d = let z : pos c s ≡ p = at_is d in rw (← z) (first_some (λ s l. t (pos c s) l) (lines_of μ c) empty s q).1
+    go c None q d = at_not_nowhere (sym d)
 
 -- where nothing is found no line passes
-pub find_none : (t : Pos → Line → Bool) (μ : Machine) → ((q : Pos) → t q empty ≡ false) → find t μ ≡ Nowhere → (p : Pos) → t p (at μ p) ≡ false
+pub find_none : (t : Pos → Line → Bool) (μ : Machine) → ((q : Pos) → t q empty ≡ false) → find t μ ≡ None → (p : Pos) → t p (at μ p) ≡ false
 unfolding find
 find_none t μ none e p = go (dec_lt p.cache (length μ.caches)) (dec_lt p.slot (length (lines_of μ p.cache)))
   where
-    in_lines : (r : Room) → first_at (λ s l. t (pos p.cache s) l) (lines_of μ p.cache) ≡ r → in_cache p.cache r ≡ Nowhere → p.slot < length (lines_of μ p.cache)
+    in_lines : (r : Option ℕ) → first_at (λ s l. t (pos p.cache s) l) (lines_of μ p.cache) ≡ r → in_cache p.cache r ≡ None → p.slot < length (lines_of μ p.cache)
         → t p (get_or (lines_of μ p.cache) p.slot empty) ≡ false
-    in_lines (Slot s) q d h = at_not_nowhere d
-    in_lines Full q d h = first_none (λ s l. t (pos p.cache s) l) (lines_of μ p.cache) empty q p.slot h
+    in_lines (Some s) q d h = at_not_nowhere d
+    in_lines None q d h = first_none (λ s l. t (pos p.cache s) l) (lines_of μ p.cache) empty q p.slot h
 
     outside : (Within μ p → ⊥) → t p (at μ p) ≡ false
     outside n = by_test (t p (at μ p)) (λ i. absurd (n (some_within μ p (λ d. not_both (rw d at i) (none p))))) (λ i. i)
@@ -167,17 +164,17 @@ pub any_line_lem : (k : Pos → Line → Bool) (P : Pos → Line → Type 0) (μ
 unfolding any_line
 any_line_lem k P μ d e = record { says = says (find k μ) refl; when = λ h. when h (find k μ) refl }
   where
-    says : (r : Found) → find k μ ≡ r → is_found r ≡ true → (p : Pos) × P p (at μ p)
-    says (At p) q t = (p, (d p (at μ p)).says (find_some k μ p q))
-    says Nowhere q t = absurd (false≢true t)
+    says : (r : Option Pos) → find k μ ≡ r → is_found r ≡ true → (p : Pos) × P p (at μ p)
+    says (Some p) q t = (p, (d p (at μ p)).says (find_some k μ p q))
+    says None q t = absurd (false≢true t)
 
-    when : (p : Pos) × P p (at μ p) → (r : Found) → find k μ ≡ r → is_found r ≡ true
-    when h (At p) q = refl
-    when h Nowhere q = absurd (not_both ((d h.0 (at μ h.0)).when h.1) (find_none k μ (λ p. by_test (k p empty) (λ t. absurd (e p ((d p empty).says t))) (λ t. t)) q h.0))
+    when : (p : Pos) × P p (at μ p) → (r : Option Pos) → find k μ ≡ r → is_found r ≡ true
+    when h (Some p) q = refl
+    when h None q = absurd (not_both ((d h.0 (at μ h.0)).when h.1) (find_none k μ (λ p. by_test (k p empty) (λ t. absurd (e p ((d p empty).says t))) (λ t. t)) q h.0))
 
 -- ---- a free slot
 
-pub free_within : (μ : Machine) (c s : ℕ) → free_slot μ c ≡ Slot s → c < length μ.caches → Within μ (pos c s) × (live μ.lcvid (at μ (pos c s)) ≡ false)
+pub free_within : (μ : Machine) (c s : ℕ) → free_slot μ c ≡ Some s → c < length μ.caches → Within μ (pos c s) × (live μ.lcvid (at μ (pos c s)) ≡ false)
 unfolding free_slot at
 free_within μ c s e h =
     let (i, j) = first_some (λ s l. not (live μ.lcvid l)) (lines_of μ c) empty s e in

@@ -3,10 +3,10 @@
 use mathlib.Core.Path.{◌≡◌, ◌∙◌}
 use Prim.Native.Nat.{ℕ, ◌<◌}
 use lib.ListN.{length}
+use Rattle.std.specs.Prelude.{Some}
 use Rattle.rules.specs.declared.Line.{Line}
 use Rattle.rules.specs.declared.Machine.{Machine}
 use Rattle.rules.specs.declared.Pos.{Pos}
-use Rattle.rules.specs.declared.Room.TheVariants.{Slot}
 use Rattle.rules.specs.Machine.{pos, at, memory_at, drop, put, free_slot}
 use Rattle.rules.specs.House.{LineRules}
 use Rattle.rules.specs.Load.{is_of}
@@ -30,7 +30,7 @@ module _ (μ : Machine) (x : ℕ) where
   pub dropped_local : Local μ (drop (is_of x) μ) x
   dropped_local = drop_local (is_of x) μ x (λ p i. (of_test x p (at μ p)).says i)
 
-  module _ (c e : ℕ) (l : Line) (slot : free_slot (drop (is_of x) μ) c ≡ Slot e) (in_range : c < length μ.caches) (at_x : l.address ≡ x) where
+  module _ (c e : ℕ) (l : Line) (slot : free_slot (drop (is_of x) μ) c ≡ Some e) (in_range : c < length μ.caches) (at_x : l.address ≡ x) where
     width : c < length (drop (is_of x) μ).caches
     width = rw (drop_width (is_of x) μ) in_range
 

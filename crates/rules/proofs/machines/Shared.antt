@@ -9,12 +9,12 @@ use native.Mathlib.Decide.{ℕ_discrete}
 use lib.Dec.{eqb}
 use lib.ListN.{length}
 use borrow.Author.Tests.{eq-eqb}
+use Rattle.std.specs.Prelude.{Some}
 use Rattle.rules.specs.declared.State.{State}
 use Rattle.rules.specs.declared.State.TheVariants.{I, M, O, E, S, SM, SO, SE, SS}
 use Rattle.rules.specs.declared.Line.{Line}
 use Rattle.rules.specs.declared.Machine.{Machine}
 use Rattle.rules.specs.declared.Pos.{Pos}
-use Rattle.rules.specs.declared.Room.TheVariants.{Slot}
 use Rattle.rules.specs.Data.{Data}
 use Rattle.rules.specs.States.{is_ss, plain, top}
 use Rattle.rules.specs.Line.{line, is_plain}
@@ -54,7 +54,7 @@ shares_dropped {μ = μ} s t a x k =
 module _ {N : ℕ} {ρ : Machine} (s : Sound N ρ) (c a x e m : ℕ) (d : Data) (o : Pos) (O : OwnerAt (at ρ) ρ.lcvid x a o) (same_m : (at ρ o).m ≡ m)
     (same_word : (at ρ o).word ≡ d) (up : ρ.lcvid ≤ a) (small : a < N)
     (in_range : c < length ρ.caches) (away : o.cache ≢ c) (high : top (at ρ o).state ≡ true → a ≤ max (at ρ o).h ρ.lcvid)
-    (slot : free_slot (drop (is_stale_share c x m) ρ) c ≡ Slot e) where
+    (slot : free_slot (drop (is_stale_share c x m) ρ) c ≡ Some e) where
   abbrev stale : Pos → Line → Bool
   stale = is_stale_share c x m
 
@@ -94,7 +94,7 @@ module _ {N : ℕ} {ρ : Machine} (s : Sound N ρ) (c a x e m : ℕ) (d : Data) 
 
 module _ {N : ℕ} {μ : Machine} (s : Sound N μ) (c a x e : ℕ) (q : Pos) (in_range : c < length μ.caches) (is : is_plain x (at μ q) ≡ true)
     (own : (p : Pos) → (eqb p.cache c && is_plain x (at μ p)) ≡ false)
-    (slot : free_slot (change (λ p l. demote_line x l) μ) c ≡ Slot e) where
+    (slot : free_slot (change (λ p l. demote_line x l) μ) c ≡ Some e) where
   abbrev demoting : Pos → Line → Line
   demoting p l = demote_line x l
 

@@ -8,11 +8,11 @@ use native.Mathlib.Omega.{arith}
 use lib.Dec.{ltb, eqb}
 use lib.ListN.{length}
 use borrow.Author.Tests.{ltb-false, eq-eqb}
+use Rattle.std.specs.Prelude.{Some}
 use Rattle.rules.specs.declared.State.TheVariants.{M, SO}
 use Rattle.rules.specs.declared.Line.{Line}
 use Rattle.rules.specs.declared.Machine.{Machine}
 use Rattle.rules.specs.declared.Pos.{Pos}
-use Rattle.rules.specs.declared.Room.TheVariants.{Slot}
 use Rattle.rules.specs.declared.Answer.TheVariants.{Done, Misspec, Refused}
 use Rattle.rules.specs.declared.Reason.TheVariants.{NoRoom}
 use Rattle.rules.specs.declared.Answered.{Answered}
@@ -60,7 +60,7 @@ version_rules N x a d small some = rules_top N (version x a d) refl (omega arith
 
 module _ {N : ℕ} {μ : Machine} (s : Sound N μ) (c a x e : ℕ) (d : Data) (in_range : c < length μ.caches) (small : a < N) (new : μ.lcvid < a)
     (o : Pos) (is : is_owner x a (at μ o) ≡ true) (good-time : misspeculates a (at μ o) ≡ false) (k : Line) (k-rules : LineRules N k)
-    (k-of : (k ≡ empty) ⊎ (k.address ≡ x)) (slot : free_slot (put o k (bared μ x o)) c ≡ Slot e) where
+    (k-of : (k ≡ empty) ⊎ (k.address ≡ x)) (slot : free_slot (put o k (bared μ x o)) c ≡ Some e) where
   up : μ.lcvid ≤ a
   up = omega arith
 
@@ -155,7 +155,7 @@ module _ {N : ℕ} {μ : Machine} (s : Sound N μ) (c a x e : ℕ) (d : Data) (i
 -- ---- no version yet
 
 module _ {N : ℕ} {μ : Machine} (s : Sound N μ) (c a x e f : ℕ) (d : Data) (in_range : c < length μ.caches) (small : a < N) (new : μ.lcvid < a) (none : Unowned μ x a)
-    (slot : free_slot (drop (is_of x) μ) c ≡ Slot e) (slot' : free_slot (put (pos c e) (line SO x 0 a (plain_data μ x)) (drop (is_of x) μ)) c ≡ Slot f) where
+    (slot : free_slot (drop (is_of x) μ) c ≡ Some e) (slot' : free_slot (put (pos c e) (line SO x 0 a (plain_data μ x)) (drop (is_of x) μ)) c ≡ Some f) where
   abbrev old : Line
   old = line SO x 0 a (plain_data μ x)
 
@@ -205,7 +205,7 @@ module _ {N : ℕ} {μ : Machine} (s : Sound N μ) (c a x e f : ℕ) (d : Data) 
 
 plain_law : {N : ℕ} {μ : Machine} (s : Sound N μ) (c x e : ℕ) (d : Data) → c < length μ.caches → ((b : ℕ) → μ.lcvid < b → Marked μ x b → ⊥)
     → ((b : ℕ) → μ.lcvid ≤ b → view μ x b ≡ view μ x μ.lcvid)
-    → free_slot (drop (is_of x) μ) c ≡ Slot e → Writes N μ (put (pos c e) (line M x 0 0 d) (drop (is_of x) μ)) μ.lcvid x d
+    → free_slot (drop (is_of x) μ) c ≡ Some e → Writes N μ (put (pos c e) (line M x 0 0 d) (drop (is_of x) μ)) μ.lcvid x d
 plain_law {N} {μ} s c x e d in_range none flat slot =
     local_writes s (replaced_local μ x c e l slot in_range refl) (replaced_fits μ x c e l slot in_range refl (rules_plain N l refl refl refl) s.fits) μ.lcvid d
     (replaced_memory μ x c e l slot in_range refl) W (omega arith) flat
@@ -230,12 +230,12 @@ module _ {N : ℕ} {μ : Machine} (s : Sound N μ) (vid : Bool) (c a x : ℕ) (d
   abbrev Ok : Answered → Type 0
   Ok r = StoreOutcome N μ a x d r
 
-  over : vid ≡ true → (o : Pos) → is_owner x a (at μ o) ≡ true → misspeculates a (at μ o) ≡ false → (at μ o).m ≡ a → (e : ℕ) → free_slot (put o empty (bared μ x o)) c ≡ Slot e
+  over : vid ≡ true → (o : Pos) → is_owner x a (at μ o) ≡ true → misspeculates a (at μ o) ≡ false → (at μ o).m ≡ a → (e : ℕ) → free_slot (put o empty (bared μ x o)) c ≡ Some e
       → Ok (gives Done (put (pos c e) (version x a d) (put o empty (bared μ x o))))
   over v o is n i e slot = wrote _ (over_law s c a x e d in_range small (above v) o is n empty (rules_empty N) (inl refl) slot refl i)
 
   split : vid ≡ true → (o : Pos) → is_owner x a (at μ o) ≡ true → misspeculates a (at μ o) ≡ false → (is_sm (at μ o).state && eqb a (at μ o).m) ≡ false
-      → (e : ℕ) → free_slot (put o (closed a (at μ o)) (bared μ x o)) c ≡ Slot e → Ok (gives Done (put (pos c e) (version x a d) (put o (closed a (at μ o)) (bared μ x o))))
+      → (e : ℕ) → free_slot (put o (closed a (at μ o)) (bared μ x o)) c ≡ Some e → Ok (gives Done (put (pos c e) (version x a d) (put o (closed a (at μ o)) (bared μ x o))))
   split v o is n j e slot =
       wrote _ (split_law s c a x e d in_range small (above v) o is n (closed a (at μ o)) (rules_closed N _ _ a _ below small) (inr own.here.at) slot refl below)
     where
@@ -252,18 +252,18 @@ module _ {N : ℕ} {μ : Machine} (s : Sound N μ) (vid : Bool) (c a x : ℕ) (d
       below : (at μ o).m < a
       below = let i = not_own in omega (arith, own.hit.from)
 
-  first : vid ≡ true → Unowned μ x a → (e f : ℕ) → free_slot (drop (is_of x) μ) c ≡ Slot e → free_slot (put (pos c e) (line SO x 0 a (plain_data μ x)) (drop (is_of x) μ)) c ≡ Slot f
+  first : vid ≡ true → Unowned μ x a → (e f : ℕ) → free_slot (drop (is_of x) μ) c ≡ Some e → free_slot (put (pos c e) (line SO x 0 a (plain_data μ x)) (drop (is_of x) μ)) c ≡ Some f
       → Ok (gives Done (put (pos c f) (version x a d) (put (pos c e) (line SO x 0 a (plain_data μ x)) (drop (is_of x) μ))))
   first v none e f slot slot' = wrote _ (first_law s c a x e f d in_range small (above v) none slot slot')
 
-  plain : vid ≡ false → ((b : ℕ) → μ.lcvid < b → Marked μ x b → ⊥) → ((b : ℕ) → μ.lcvid ≤ b → view μ x b ≡ view μ x μ.lcvid) → (e : ℕ) → free_slot (drop (is_of x) μ) c ≡ Slot e
+  plain : vid ≡ false → ((b : ℕ) → μ.lcvid < b → Marked μ x b → ⊥) → ((b : ℕ) → μ.lcvid ≤ b → view μ x b ≡ view μ x μ.lcvid) → (e : ℕ) → free_slot (drop (is_of x) μ) c ≡ Some e
       → Ok (gives Done (put (pos c e) (line M x 0 0 d) (drop (is_of x) μ)))
   plain v none flat e slot = wrote ν (subst (λ (b : ℕ). Writes N μ ν b x d) (sym (plainly v)) (plain_law s c x e d in_range none flat slot))
     where
       ν : Machine
       ν = put (pos c e) (line M x 0 0 d) (drop (is_of x) μ)
 
-  plain_owned : vid ≡ false → (o : Pos) → is_owner x a (at μ o) ≡ true → misspeculates_plain μ (at μ o) ≡ false → (e : ℕ) → free_slot (drop (is_of x) μ) c ≡ Slot e
+  plain_owned : vid ≡ false → (o : Pos) → is_owner x a (at μ o) ≡ true → misspeculates_plain μ (at μ o) ≡ false → (e : ℕ) → free_slot (drop (is_of x) μ) c ≡ Some e
       → Ok (gives Done (put (pos c e) (line M x 0 0 d) (drop (is_of x) μ)))
   plain_owned v o is n =
       plain v (λ b i k. omega (arith, t.1, mark_on (good s x) o own.here t.0 b k))
@@ -275,7 +275,7 @@ module _ {N : ℕ} {μ : Machine} (s : Sound N μ) (vid : Bool) (c a x : ℕ) (d
       t : (top (at μ o).state ≡ true) × ((at μ o).h ≤ μ.lcvid)
       t = unread_top μ.lcvid (at μ o) own.owning n
 
-  plain_unowned : vid ≡ false → Unowned μ x a → (e : ℕ) → free_slot (drop (is_of x) μ) c ≡ Slot e → Ok (gives Done (put (pos c e) (line M x 0 0 d) (drop (is_of x) μ)))
+  plain_unowned : vid ≡ false → Unowned μ x a → (e : ℕ) → free_slot (drop (is_of x) μ) c ≡ Some e → Ok (gives Done (put (pos c e) (line M x 0 0 d) (drop (is_of x) μ)))
   plain_unowned v none = plain v (λ b i. quiet_unmarked μ x quiet' b) (λ b i. quiet_flat s x μ.lcvid (omega arith) quiet' b i (view μ x b) (view_sees s x b i))
     where
       quiet' : Quiet μ x

@@ -4,10 +4,9 @@ use mathlib.Core.Path.{◌≡◌, refl, sym, ◌∙◌}
 use mathlib.Core.Bool.{true, false}
 use Prim.Native.Nat.{ℕ, ◌≤◌}
 use native.Mathlib.Omega.{arith}
+use Rattle.std.specs.Prelude.{Option, Some, None}
 use Rattle.rules.specs.declared.Machine.{Machine}
 use Rattle.rules.specs.declared.Pos.{Pos}
-use Rattle.rules.specs.declared.Found.{Found}
-use Rattle.rules.specs.declared.Found.TheVariants.{At, Nowhere}
 use Rattle.rules.specs.Data.{Data}
 use Rattle.rules.specs.States.{spec, top}
 use Rattle.rules.specs.Line.{empty, is_owner, is_plain}
@@ -65,23 +64,23 @@ module _ {N : ℕ} {μ : Machine} (s : Sound N μ) (x a : ℕ) (up : μ.lcvid �
   unfolding plain_data
   plain_sees none = go (find (λ q l. is_plain x l) μ) refl
     where
-      past : find (λ q l. is_plain x l) μ ≡ Nowhere → (p : Pos) → Here μ.lcvid x (at μ p) → Passes a (memory_at μ x) (at μ p)
+      past : find (λ q l. is_plain x l) μ ≡ None → (p : Pos) → Here μ.lcvid x (at μ p) → Passes a (memory_at μ x) (at μ p)
       past e p h = record {
         same = λ i. absurd (not_both ((plain_test x (at μ p)).when (i, h.at)) (find_none (λ q l. is_plain x l) μ (λ q. empty_plain x) e p));
         later = above (good s x) a (λ q o. not_both (at_owner q o) (none q)) p h;
       }
 
-      go : (r : Found) → find (λ q l. is_plain x l) μ ≡ r → Sees (at μ) μ.lcvid x (memory_at μ x) a (data_at μ r (memory_at μ x))
-      go (At p) e = let (i, j) = (plain_test x (at μ p)).says (find_some (λ q l. is_plain x l) μ p e) in from_plain p (plain_here μ.lcvid x (at μ p) i j) i refl
-      go Nowhere e = from_memory (past e) refl
+      go : (r : Option Pos) → find (λ q l. is_plain x l) μ ≡ r → Sees (at μ) μ.lcvid x (memory_at μ x) a (data_at μ r (memory_at μ x))
+      go (Some p) e = let (i, j) = (plain_test x (at μ p)).says (find_some (λ q l. is_plain x l) μ p e) in from_plain p (plain_here μ.lcvid x (at μ p) i j) i refl
+      go None e = from_memory (past e) refl
 
   pub view_sees : Sees (at μ) μ.lcvid x (memory_at μ x) a (view μ x a)
   unfolding view
   view_sees = go (find (λ q l. is_owner x a l) μ) refl
     where
-      go : (r : Found) → find (λ q l. is_owner x a l) μ ≡ r → Sees (at μ) μ.lcvid x (memory_at μ x) a (data_at μ r (plain_data μ x))
-      go (At p) e = from_owner p (owner_at p (find_some (λ q l. is_owner x a l) μ p e)) refl
-      go Nowhere e = plain_sees (find_none (λ q l. is_owner x a l) μ (λ q. empty_owner x a) e)
+      go : (r : Option Pos) → find (λ q l. is_owner x a l) μ ≡ r → Sees (at μ) μ.lcvid x (memory_at μ x) a (data_at μ r (plain_data μ x))
+      go (Some p) e = from_owner p (owner_at p (find_some (λ q l. is_owner x a l) μ p e)) refl
+      go None e = plain_sees (find_none (λ q l. is_owner x a l) μ (λ q. empty_owner x a) e)
 
   pub view_is : (v : Data) → Sees (at μ) μ.lcvid x (memory_at μ x) a v → view μ x a ≡ v
   view_is v k = sees_one (good s x) a (view μ x a) v view_sees k

@@ -1,10 +1,9 @@
 -- Assumes nothing.
-use Rattle.std.proofs.Common.{ℕ, Bool, ◌&&◌, sym, ap, arith, get_or}
+use Rattle.std.proofs.Common.{ℕ, Bool, ◌&&◌, sym, ap, arith, get_or, Option}
 use lib.Dec.{ltb}
 use borrow.Author.Count.{below_more}
 use Rattle.rules.specs.declared.Line.{Line}
 use Rattle.rules.specs.declared.Cache.{Cache}
-use Rattle.rules.specs.declared.Found.{Found}
 use Rattle.rules.specs.States.{top}
 use Rattle.rules.specs.Line.{empty}
 use Rattle.rules.specs.Lists.{first_at}
@@ -19,7 +18,7 @@ abbrev pending : ℕ → ℕ → Line → Bool
 pending lc s l = top l.state && ltb lc l.h
 
 -- what the search finds in one cache
-abbrev found_in : ℕ → ℕ → Cache → Found
+abbrev found_in : ℕ → ℕ → Cache → Option Pos
 found_in lc c k = in_cache c (first_at (pending lc) k.lines)
 
 pub returns-then-top-lcvid : goal.returns-then-top-lcvid
