@@ -1,6 +1,6 @@
 -- Answers: the number of a refusal and the letter of a fault; the text, the number behind it and the value of an answer. Every promise uses these.
 -- Assumes nothing.
-use Rattle.std.specs.Prelude.{List, [], ◌∷◌, ℕ}
+use Rattle.std.specs.Prelude.{List, ℕ, codes}
 use Rattle.rules.specs.declared.Fault.{Fault}
 use Rattle.rules.specs.declared.Fault.TheVariants.{WrongKey, BadNumber, NumberTooLarge, KeyNotZero, NoLineEnd}
 use Rattle.rules.specs.declared.Reason.{Reason}
@@ -35,19 +35,19 @@ letter_of NoLineEnd = 101
 
 -- "Answers: value (a load), done (any other step), or instead misspec, overflow, refused-N", in ASCII; the number N follows the last
 abbrev pub value_text : List ℕ
-value_text = 118 ∷ 97 ∷ 108 ∷ 117 ∷ 101 ∷ []
+value_text = codes "value"
 
 abbrev pub done_text : List ℕ
-done_text = 100 ∷ 111 ∷ 110 ∷ 101 ∷ []
+done_text = codes "done"
 
 abbrev pub misspec_text : List ℕ
-misspec_text = 109 ∷ 105 ∷ 115 ∷ 115 ∷ 112 ∷ 101 ∷ 99 ∷ []
+misspec_text = codes "misspec"
 
 abbrev pub overflow_text : List ℕ
-overflow_text = 111 ∷ 118 ∷ 101 ∷ 114 ∷ 102 ∷ 108 ∷ 111 ∷ 119 ∷ []
+overflow_text = codes "overflow"
 
 abbrev pub refused_text : List ℕ
-refused_text = 114 ∷ 101 ∷ 102 ∷ 117 ∷ 115 ∷ 101 ∷ 100 ∷ 45 ∷ []
+refused_text = codes "refused-"
 
 abbrev pub text_of : Answer → List ℕ
 text_of (Value w) = value_text

@@ -1,10 +1,23 @@
-// What an answer carries: its data, the number of a refusal, the letter of a fault.
+// What an answer carries: its word and its data, the number of a refusal, the letter of a fault.
 ghost use Rattle.std.specs.Prelude.{◌≡◌};
-ghost use Rattle.rules.specs.Answer.{number_of, letter_of, data_of};
+ghost use Rattle.rules.specs.Answer.{number_of, letter_of, data_of, text_of};
 
 use super::{Answer, Fault, Reason};
 
 impl Answer {
+    // As a report says it; the number of a refusal follows the last.
+    pub fn word(self) -> &'static str
+        ensures { result.now ≡ text_of self }
+    {
+        match self {
+            Answer::Value(_) => "value",
+            Answer::Done => "done",
+            Answer::Misspec => "misspec",
+            Answer::Overflow => "overflow",
+            Answer::Refused(_) => "refused-",
+        }
+    }
+
     // The loaded value, else 0.
     pub fn data(self) -> u64
         ensures { result ≡ data_of self }

@@ -7,6 +7,7 @@
 mod answers;
 mod classes;
 mod hitting;
+mod text;
 
 // I; plain M, O, E, S; speculative S-M, S-O, S-E, S-S.
 #[derive(Clone, Copy, PartialEq, Eq)]
