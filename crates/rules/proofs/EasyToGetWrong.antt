@@ -26,7 +26,8 @@ use Rattle.rules.specs.Load.{is_of}
 use Rattle.rules.specs.Store.{misspeculates, bared, store_owned, store_by, store_of}
 use Rattle.rules.specs.Evict.{spare, write_back, with_shares, settled_out, evict_of}
 use Rattle.rules.specs.Step.{acts_with, has_vid, rule_of, step_of}
-use Rattle.rules.proofs.base.Bools.{not_both, by_test}
+use Rattle.std.proofs.lemmas.Bool.{both_ways}
+use Rattle.rules.proofs.base.Bools.{by_test}
 use Rattle.rules.proofs.base.States.{state_rule, state_not}
 use Rattle.rules.proofs.base.Lines.{share_test, owner_test, top_hits, whole_here}
 use Rattle.rules.proofs.machines.Sound.{good}
@@ -87,7 +88,7 @@ module _ (x m : ℕ) where
   drop_unshared : (t : Pos → Line → Bool) (μ : Machine) → ((q : Pos) (l : Line) → is_share x m l ≡ true → t q l ≡ true) → (q : Pos) → is_share x m (at (drop t μ) q) ≡ false
   drop_unshared t μ k q =
       by_test (t q (at μ q)) (λ i. rw (drop_gone t μ q i) empty_unshared) (λ i. rw (drop_stays t μ q i)
-      (by_test (is_share x m (at μ q)) (λ j. absurd (not_both (k q (at μ q) j) i)) (λ j. j)))
+      (by_test (is_share x m (at μ q)) (λ j. absurd (both_ways _ i (k q (at μ q) j))) (λ j. j)))
 
 -- after a store over an owner no S-S with the owner's m is left at that address
 pub store_drops_shares : (μ : Machine) → Sized μ → House μ → (vid : Bool) (c a x : ℕ) (d : Data) → μ.lcvid ≤ a → (o : Pos) → is_owner x a (at μ o) ≡ true
@@ -97,9 +98,9 @@ store_drops_shares μ z h vid c a x d up o is = store_cases P μ vid c a x d (re
   misspec = λ p i e. not_done Misspec (unfold is_done in refl) e;
   over = λ v p i n j e s k. put_unshared x m _ _ _ (unfold is_share in refl) (put_unshared x m _ p empty (empty_unshared x m) (bare p i));
   split = λ v p i n j e s k. put_unshared x m _ _ _ (unfold is_share in refl) (put_unshared x m _ p _ (unfold is_share in refl) (bare p i));
-  first = λ v n. absurd (not_both is (n o));
+  first = λ v n. absurd (both_ways _ (n o) is);
   plain_owned = λ v p i n e s k. put_unshared x m _ _ _ (unfold is_share in refl) all_gone;
-  plain_unowned = λ v n. absurd (not_both is (n o));
+  plain_unowned = λ v n. absurd (both_ways _ (n o) is);
   full = λ e. not_done (Refused NoRoom) (unfold is_done in refl) e;
 })
   where
@@ -142,7 +143,7 @@ later_read_misspeculates μ z h c v at₀ w A new o l own read-later =
 
     go : (d : Data) (r : Option Pos) → find (λ p k. is_owner (line_of at₀) v k) μ ≡ r → (store_by μ c v (line_of at₀) d r).answer ≡ Misspec
     go d (Some p) e = rw (owner_is μ z h (line_of at₀) v (omega arith) o p is (find_some (λ p k. is_owner (line_of at₀) v k) μ p e)) (unfold store_owned in rw judged)
-    go d None e = absurd (not_both is (find_none (λ p k. is_owner (line_of at₀) v k) μ (λ q. empty_owner (line_of at₀) v) e o))
+    go d None e = absurd (both_ways _ (find_none (λ p k. is_owner (line_of at₀) v k) μ (λ q. empty_owner (line_of at₀) v) e o) is)
 
 -- ---- "Treating a settled S-M as clean at eviction. Its word is lost."
 

@@ -28,7 +28,8 @@ use Rattle.rules.specs.Load.{load_of}
 use Rattle.rules.specs.Store.{store_of, new_data}
 use Rattle.rules.specs.Flights.{Demand3}
 use mathlib.Core.List.{List}
-use Rattle.rules.proofs.base.Bools.{left, right, by_test}
+use Rattle.std.proofs.lemmas.Bool.{and_parts}
+use Rattle.rules.proofs.base.Bools.{by_test}
 use Rattle.rules.proofs.base.Tests.{Decides}
 use Rattle.rules.proofs.base.Lines.{live_test}
 use Rattle.rules.proofs.history.Agree.{serializable}
@@ -48,7 +49,7 @@ one_result p q = p ∙ sym q
 pub make_sound : (n : ℕ) (words : List Data) → length words ≡ 64 → House (make_of n words).machine × Sized (make_of n words).machine
 unfolding make_of
 make_sound n words all = by_test (leb 1 n && leb n 4)
-    (λ i. rw i (both (fresh_sound n words (leb-true 1 n (left (leb 1 n) (leb n 4) i)) (leb-true n 4 (right (leb 1 n) (leb n 4) i)) all)))
+    (λ i. rw i (both (fresh_sound n words (leb-true 1 n ((and_parts (leb 1 n) (leb n 4) i).0)) (leb-true n 4 ((and_parts (leb 1 n) (leb n 4) i).1)) all)))
     (λ i. rw i (both (fresh_sound 1 (replicate 64 no_data) (omega arith) (omega arith) refl)))
   where
     both : {μ : Machine} → SoundMachine (vids μ) μ → House μ × Sized μ

@@ -12,7 +12,9 @@ use Rattle.rules.specs.Data.{Data}
 use Rattle.rules.specs.States.{is_i, is_e, is_se, plain, spec, ranged, top, owns}
 use Rattle.rules.specs.Line.{empty, hits}
 use Rattle.rules.specs.Abort.{settle, settled, abort_line}
-use Rattle.rules.proofs.base.Bools.{both, left, right, not_both, by_test}
+use Rattle.std.specs.Cmp.Derive.{both_true}
+use Rattle.std.proofs.lemmas.Bool.{and_parts, both_ways}
+use Rattle.rules.proofs.base.Bools.{by_test}
 use Rattle.rules.proofs.base.States.{state_rule, state_not, state_never, owns_spec, top_spec, plain_or_spec}
 use Rattle.rules.proofs.base.Lines.{Here, hits_test, not_here, whole_here}
 use Rattle.rules.proofs.address.Sound.{SoundAt, GoodAt, OwnerAt, Passes, Sees, from_owner, from_plain, from_memory, Mark}
@@ -31,10 +33,10 @@ module _ {N : ℕ} {f g : Pos → Line} {lc x : ℕ} {w : Data} (s : GoodAt N f 
       by_test (spec (f p).state)
       (λ i. by_test (owns (f p).state && hits lc (f p))
       (λ j. let e : g p ≡ settled (f p) = is p ∙ rw (i, j) in
-      let t = (hits_test lc (f p)).says (right (owns (f p).state) (hits lc (f p)) j) in
+      let t = (hits_test lc (f p)).says ((and_parts (owns (f p).state) (hits lc (f p)) j).1) in
       set (record {
         here = record { alive = record { some = state_not spec is_i refl (f p).state i; fresh = t.until }; at = rw e at h.at };
-        owning = left (owns (f p).state) (hits lc (f p)) j;
+        owning = (and_parts (owns (f p).state) (hits lc (f p)) j).0;
         hit = t;
       }) e)
       (λ j. let e : g p ≡ empty = is p ∙ rw (i, j) in not_here lc x (rw e at h)))
@@ -53,7 +55,7 @@ module _ {N : ℕ} {f g : Pos → Line} {lc x : ℕ} {w : Data} (s : GoodAt N f 
     where
       go : (plain (f p).state ≡ true) ⊎ (spec (f p).state ≡ true) → plain (f p).state ≡ true
       go (inl j) = j
-      go (inr j) = absurd (not_both j i)
+      go (inr j) = absurd (both_ways _ i j)
 
   alone : (o : Pos) → OwnerAt f lc x lc o → (q : Pos) → Here lc x (g q) → q ≡ o
   alone o O q h = go (was q h)
@@ -86,7 +88,7 @@ module _ {N : ℕ} {f g : Pos → Line} {lc x : ℕ} {w : Data} (s : GoodAt N f 
       whole p h (kept i e k) = sound_kept (unmoved p k (unspec p k i)) s.sound
       whole p h (set o e) = sound_lone p (alone p o) (rw e (record {
         whole = state_not owns (λ s. ranged (settle s)) refl (f p).state o.owning;
-        equal = λ c. (s.sound.meets p o.here).clean (state_rule (λ s. owns s && clean (settle s)) (λ s. is_e s || is_se s) refl (f p).state (both o.owning c));
+        equal = λ c. (s.sound.meets p o.here).clean (state_rule (λ s. owns s && clean (settle s)) (λ s. is_e s || is_se s) refl (f p).state (both_true o.owning c));
         covers = λ c. state_never owns (λ s. spec (settle s)) refl (f p).state o.owning c;
       }))
 
@@ -100,7 +102,7 @@ module _ {N : ℕ} {f g : Pos → Line} {lc x : ℕ} {w : Data} (s : GoodAt N f 
   sees_abort a v (from_memory n e) = from_memory (λ p h. go p (was p h)) e
     where
       go : (p : Pos) → Was p → Passes a w (g p)
-      go p (kept i d h) = rw d (record { same = (n p h).same; later = λ o. absurd (not_both (owns_spec (f p).state o) i) })
+      go p (kept i d h) = rw d (record { same = (n p h).same; later = λ o. absurd (both_ways _ i (owns_spec (f p).state o)) })
       go p (set o d) = absurd (omega (arith, (n p o.here).later o.owning, o.hit.from))
 
 -- no speculative line is left, of any address
@@ -115,7 +117,7 @@ abort_plain lc l =
 
 module _ (f : Pos → Line) (lc lc' x : ℕ) (none : (p : Pos) → spec (f p).state ≡ false) where
   never : {P : Type 0} (k : State → Bool) → ((s : State) → k s ≡ true → spec s ≡ true) → (p : Pos) → k (f p).state ≡ true → P
-  never k r p i = absurd (not_both (r (f p).state i) (none p))
+  never k r p i = absurd (both_ways _ (none p) (r (f p).state i))
 
   pub no_mark : (b : ℕ) → Mark f lc x b → ⊥
   no_mark b (p, h, (t, j)) = never top top_spec p t
@@ -127,8 +129,8 @@ module _ (f : Pos → Line) (lc lc' x : ℕ) (none : (p : Pos) → spec (f p).st
   sound_under {w} s = sound_kept (record {
     back = λ p h. (under p h, like_same 0 refl);
     stays = λ p q hp hq n. (under q hq, like_same 0 refl);
-    lows = λ p h i. absurd (not_both i (none p));
-    up = λ p h i. absurd (not_both i (none p));
+    lows = λ p h i. absurd (both_ways _ (none p) i);
+    up = λ p h i. absurd (both_ways _ (none p) i);
     memory = λ p h i. refl;
   }) s
 

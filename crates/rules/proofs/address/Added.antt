@@ -12,7 +12,9 @@ use Rattle.rules.specs.declared.Pos.{Pos}
 use Rattle.rules.specs.Data.{Data}
 use Rattle.rules.specs.States.{is_o, is_s, is_so, is_ss, plain, spec, top, stands}
 use Rattle.rules.specs.Line.{line}
-use Rattle.rules.proofs.base.Bools.{both, neg, not_both, by_test}
+use Rattle.std.specs.Cmp.Derive.{both_true}
+use Rattle.std.proofs.lemmas.Bool.{both_ways, not_from_false}
+use Rattle.rules.proofs.base.Bools.{by_test}
 use Rattle.rules.proofs.base.States.{state_rule, owns_spec, owns_cases, so_ranged, stands_spec}
 use Rattle.rules.proofs.base.Lines.{Here, pos_dec}
 use Rattle.rules.proofs.address.Sound.{Stand, There, IsO, Top, Low, From, OwnedBy, Meets, SoundAt, GoodAt, OwnerAt, Passes, Sees, from_owner, from_plain, from_memory, KeepsAt}
@@ -63,7 +65,7 @@ module _ {f g : Pos → Line} {lc x : ℕ} {n : Pos} (A : Added f g lc x n) wher
     sound = sound_added s new m;
     sees = sees;
     keeps = λ b i. still_there (λ q l. (top l.state ≡ true) × (b ≤ l.h));
-    made = λ b i (p, h, (t, j)). let e = A.rest p (λ d. not_both (rw d at t) no_top) in inl (p, rw e at h, (rw e at t, rw e at j));
+    made = λ b i (p, h, (t, j)). let e = A.rest p (λ d. both_ways _ no_top (rw d at t)) in inl (p, rw e at h, (rw e at t, rw e at j));
   }
     where
       sees : (b : ℕ) (v : Data) → lc ≤ b → Sees f lc x w b v → Sees g lc x w b v
@@ -148,7 +150,7 @@ module _ {N : ℕ} {f g : Pos → Line} {lc x : ℕ} {w : Data} {n : Pos} (s : G
     clean = λ i. absurd (false≢true i);
     shared =
         λ i. by_test (is_o (f r).state) (λ j. inr (still_there A IsO (r, hr, j)))
-        (λ j. still_beside A ((s.sound.meets r hr).shared (state_rule (λ t. (is_o t || is_s t) && not (is_o t)) is_s refl (f r).state (both (all r hr) (neg j)))));
+        (λ j. still_beside A ((s.sound.meets r hr).shared (state_rule (λ t. (is_o t || is_s t) && not (is_o t)) is_s refl (f r).state (both_true (all r hr) (not_from_false _ j)))));
     newest = λ i. absurd (false≢true i);
     lowest = λ i. absurd (false≢true i);
     next = λ i. absurd (false≢true i);

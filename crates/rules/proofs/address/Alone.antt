@@ -9,7 +9,8 @@ use Rattle.rules.specs.declared.Line.{Line}
 use Rattle.rules.specs.declared.Pos.{Pos}
 use Rattle.rules.specs.Data.{Data}
 use Rattle.rules.specs.States.{plain, spec, ranged, top}
-use Rattle.rules.proofs.base.Bools.{both, neg}
+use Rattle.std.specs.Cmp.Derive.{both_true}
+use Rattle.std.proofs.lemmas.Bool.{not_from_false}
 use Rattle.rules.proofs.base.States.{state_rule, state_never, plain_or_spec, top_owns}
 use Rattle.rules.proofs.base.Lines.{Here, top_hits}
 use Rattle.rules.proofs.address.Sound.{Sees, from_owner, from_plain, Mark, KeepsAt, WritesAt}
@@ -22,7 +23,7 @@ module _ {g : Pos → Line} {lc x : ℕ} {w : Data} (n : Pos) (only : (q : Pos) 
       go : (plain (g n).state ≡ true) ⊎ (spec (g n).state ≡ true) → Sees g lc x w b (g n).word
       go (inl j) = from_plain n h j refl
       go (inr j) =
-          let t = state_rule (λ s. spec s && not (ranged s)) top refl (g n).state (both j (neg l.whole)) in
+          let t = state_rule (λ s. spec s && not (ranged s)) top refl (g n).state (both_true j (not_from_false _ l.whole)) in
           from_owner n (record { here = h; owning = top_owns (g n).state t; hit = top_hits b (g n) t (omega (arith, l.covers j)) }) refl
 
   -- every number saw its word before, and nothing was marked

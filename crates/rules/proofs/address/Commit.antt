@@ -9,7 +9,8 @@ use Rattle.rules.specs.declared.Line.{Line}
 use Rattle.rules.specs.declared.Pos.{Pos}
 use Rattle.rules.specs.Data.{Data}
 use Rattle.rules.specs.States.{is_o, is_so, ranged, owns}
-use Rattle.rules.proofs.base.Bools.{not_both, by_test}
+use Rattle.std.proofs.lemmas.Bool.{both_ways}
+use Rattle.rules.proofs.base.Bools.{by_test}
 use Rattle.rules.proofs.base.States.{state_never, so_ranged, ss_ranged, owns_ranged, top_not_ranged, plain_not_ranged}
 use Rattle.rules.proofs.base.Lines.{Here}
 use Rattle.rules.proofs.address.Sound.{There, Low, From, GoodAt, SoundAt, Sees, from_owner, from_plain, from_memory, Mark}
@@ -31,7 +32,7 @@ module _ {N : ℕ} {f : Pos → Line} {lc x : ℕ} {w : Data} (s : GoodAt N f lc
   kept = record {
     back = λ p h. (older p h, like_same 0 refl);
     stays = λ p q hp hq n. (stays p q hp hq n, like_same 0 refl);
-    lows = λ p h i (q, hq, (o, l)). by_test (ranged (f q).state) (λ r. lows q hq o l r (dec_lt (suc lc) (f q).h)) (λ r. (q, later q hq (λ t. absurd (not_both t r)), (o, omega arith)));
+    lows = λ p h i (q, hq, (o, l)). by_test (ranged (f q).state) (λ r. lows q hq o l r (dec_lt (suc lc) (f q).h)) (λ r. (q, later q hq (λ t. absurd (both_ways _ r t)), (o, omega arith)));
     up = λ p h i. omega arith;
     memory = λ p h i. refl;
   }

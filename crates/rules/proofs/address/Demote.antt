@@ -14,7 +14,8 @@ use Rattle.rules.specs.Data.{Data}
 use Rattle.rules.specs.States.{is_i, is_o, is_e, is_s, is_so, is_se, is_ss, plain, spec, ranged, top, owns, stands}
 use Rattle.rules.specs.Line.{line, empty}
 use Rattle.rules.specs.Load.{demote, demote_line}
-use Rattle.rules.proofs.base.Bools.{both, by_test}
+use Rattle.std.specs.Cmp.Derive.{both_true}
+use Rattle.rules.proofs.base.Bools.{by_test}
 use Rattle.rules.proofs.base.States.{state_rule, state_never, states_rule, owns_spec, top_spec}
 use Rattle.rules.proofs.base.Lines.{Here}
 use Rattle.rules.proofs.address.Sound.{Stand, There, IsO, Meets, GoodAt, Sees, from_owner, from_plain, from_memory, KeepsAt}
@@ -69,7 +70,7 @@ module _ {N : ℕ} {f g : Pos → Line} {lc x : ℕ} {w : Data} (s : GoodAt N f 
     where
       go : Stand p q (f p) (f q) → Stand p q (demoted (f p)) (demoted (f q))
       go t = record {
-        table = states_rule (λ s t. stands s t && plain s) (λ s t. stands (demote s) (demote t)) refl (f p).state (f q).state (both t.table (plain_f p (old p hp)));
+        table = states_rule (λ s t. stands s t && plain s) (λ s t. stands (demote s) (demote t)) refl (f p).state (f q).state (both_true t.table (plain_f p (old p hp)));
         plains = λ i. t.plains (plain_f p (old p hp));
         ranges = λ i j. state_never plain (λ s. owns (demote s)) refl (f p).state (plain_f p (old p hp)) i;
         shares = λ i j. state_never plain (λ s. is_ss (demote s)) refl (f p).state (plain_f p (old p hp)) i;
@@ -79,7 +80,7 @@ module _ {N : ℕ} {f g : Pos → Line} {lc x : ℕ} {w : Data} (s : GoodAt N f 
   meets p h = rw (is p (was p h)) (record {
     clean = λ i. state_never plain (λ s. is_e (demote s) || is_se (demote s)) refl (f p).state (plain_f p hp) i;
     shared = λ i. by_test (is_e (f p).state) (λ j. inl ((s.sound.meets p hp).clean (state_rule is_e (λ s. is_e s || is_se s) refl (f p).state j)))
-        (λ j. beside ((s.sound.meets p hp).shared (state_rule (λ s. is_s (demote s) && not (is_e s)) is_s refl (f p).state (both i (rw j)))));
+        (λ j. beside ((s.sound.meets p hp).shared (state_rule (λ s. is_s (demote s) && not (is_e s)) is_s refl (f p).state (both_true i (rw j)))));
     newest = λ i. state_never plain (λ s. spec (demote s)) refl (f p).state (plain_f p hp) i;
     lowest = λ i. state_never plain (λ s. spec (demote s)) refl (f p).state (plain_f p hp) i;
     next = λ i. state_never plain (λ s. is_so (demote s)) refl (f p).state (plain_f p hp) i;

@@ -12,7 +12,9 @@ use Rattle.rules.specs.declared.Pos.{Pos}
 use Rattle.rules.specs.Data.{Data}
 use Rattle.rules.specs.States.{is_o, is_e, is_s, is_so, is_se, is_ss, plain, spec, ranged, top, owns, stands, dirty}
 use Rattle.rules.specs.Line.{empty}
-use Rattle.rules.proofs.base.Bools.{both, neg, not_both, by_test}
+use Rattle.std.specs.Cmp.Derive.{both_true}
+use Rattle.std.proofs.lemmas.Bool.{both_ways, not_from_false}
+use Rattle.rules.proofs.base.Bools.{by_test}
 use Rattle.rules.proofs.base.States.{state_rule, state_not, state_never, states_rule, owns_spec, top_owns, top_spec, so_ranged, beside_top}
 use Rattle.rules.proofs.base.Lines.{Here, not_here}
 use Rattle.rules.proofs.address.Sound.{There, IsO, Meets, SoundAt, GoodAt, Passes, Sees, from_owner, from_plain, from_memory, KeepsAt}
@@ -67,7 +69,7 @@ keeps_shares_gone {f} {g} {lc} {x} {w} a k s = keeps_thinned a T s (λ p v h i e
   where
     others : (p : Pos) {t : State → Bool} → t (f p).state ≡ true → ((s : State) → t s ≡ true → is_ss s ≡ false) → (g p ≡ f p) ⊎ ((is_ss (f p).state ≡ true) × (g p ≡ empty)) → g p ≡ f p
     others p i n (inl e) = e
-    others p i n (inr (j, e)) = absurd (not_both j (n (f p).state i))
+    others p i n (inr (j, e)) = absurd (both_ways _ (n (f p).state i) j)
 
     back : (p : Pos) → Here lc x (g p) → (g p ≡ f p) ⊎ ((is_ss (f p).state ≡ true) × (g p ≡ empty)) → g p ≡ f p
     back p h (inl e) = e
@@ -105,7 +107,7 @@ module _ {N : ℕ} {f g : Pos → Line} {lc x : ℕ} {w : Data} (s : GoodAt N f 
       unshared : ((f o).word ≡ w) ⊎ There f lc x IsO
       unshared =
           by_test (is_s (f o).state) (s.sound.meets o ho).shared (λ i. inl
-          ((s.sound.meets o ho).clean (state_rule (λ s. (is_e s || is_s s) && not (is_s s)) (λ s. is_e s || is_se s) refl (f o).state (both c (neg i)))))
+          ((s.sound.meets o ho).clean (state_rule (λ s. (is_e s || is_s s) && not (is_s s)) (λ s. is_e s || is_se s) refl (f o).state (both_true c (not_from_false _ i)))))
 
       plains : (p : Pos) (v : Data) → Here lc x (f p) → plain (f p).state ≡ true → v ≡ (f p).word → (b : ℕ) → Sees g lc x w b v
       plains p v h i e b = lost v (e ∙ word p h) b unshared
@@ -129,7 +131,7 @@ module _ {N : ℕ} {f g : Pos → Line} {lc x : ℕ} {w : Data} (s : GoodAt N f 
       left p h =
           let e = back p h in
           rw e (states_rule (λ s t. stands s t && dirty s) (λ s t. is_s t) refl (f o).state (f p).state
-          (both (s.sound.stand o p (λ d. not_here lc x (rw (← d, gone) at h)) ho (rw e at h)).table c))
+          (both_true (s.sound.stand o p (λ d. not_here lc x (rw (← d, gone) at h)) ho (rw e at h)).table c))
 
       only_s : (p : Pos) → Here lc x (g p) → Meets g lc x (f o).word p (g p)
       only_s p h = record {
@@ -166,14 +168,14 @@ module _ {N : ℕ} {f g : Pos → Line} {lc x : ℕ} {w : Data} (s : GoodAt N f 
       owner_o : (q : Pos) → Here lc x (f q) → owns (f q).state ≡ true → q ≡ o
       owner_o q h i =
           by_test (is_so (f q).state) (λ j. absurd (no_so q h j)) (λ j. newest_once s q o h ho
-          (state_rule (λ s. owns s && not (is_so s)) top refl (f q).state (both i (neg j))) t)
+          (state_rule (λ s. owns s && not (is_so s)) top refl (f q).state (both_true i (not_from_false _ j))) t)
 
       none : (p : Pos) → Here lc x (g p) → ⊥
       none p h =
           let e = back p h in let hp = rw e at h in
           let d : o ≢ p = λ d. not_here lc x (rw (← d, gone) at h) in
           let r = beside_top (f o).state (f p).state (s.sound.stand o p d ho hp).table t in
-          by_test (is_so (f p).state) (no_so p hp) (λ j. shared p hp (state_rule (λ s. ranged s && not (is_so s)) is_ss refl (f p).state (both r (neg j))))
+          by_test (is_so (f p).state) (no_so p hp) (λ j. shared p hp (state_rule (λ s. ranged s && not (is_so s)) is_ss refl (f p).state (both_true r (not_from_false _ j))))
         where
           shared : (p : Pos) → Here lc x (f p) → is_ss (f p).state ≡ true → ⊥
           shared p h i = let (q, hq, y) = (s.sound.meets p h).owner i in unshared p h i (sym y.same_m ∙ rw (owner_o q hq y.owning) refl)

@@ -11,7 +11,8 @@ use Rattle.rules.specs.declared.Line.{Line}
 use Rattle.rules.specs.declared.Pos.{Pos}
 use Rattle.rules.specs.Data.{Data}
 use Rattle.rules.specs.States.{is_i, is_o, is_e, is_s, is_so, is_se, is_ss, plain, spec, ranged, top, owns, stands}
-use Rattle.rules.proofs.base.Bools.{both, neg, not_both}
+use Rattle.std.specs.Cmp.Derive.{both_true}
+use Rattle.std.proofs.lemmas.Bool.{both_ways, not_from_false}
 use Rattle.rules.proofs.base.States.{state_rule, so_ranged, ss_ranged}
 use Rattle.rules.proofs.base.Lines.{Here, pos_dec}
 use Rattle.rules.proofs.address.Sound.{Disjoint, Stand, OwnedBy, There, IsO, Top, Low, From, Meets, SoundAt, OwnerAt, Sees, from_owner, from_plain, from_memory, Mark, KeepsAt}
@@ -196,7 +197,7 @@ pub sound_lone : {g : Pos → Line} {lc x : ℕ} {w : Data} (o : Pos) → ((q : 
 sound_lone {g} {lc} {x} {w} o only l = record { stand = λ p q n hp hq. absurd (n (only p hp ∙ sym (only q hq))); meets = λ p h. rw (only p h) (meets_o (rw (only p h) at h)) }
   where
     is_top : spec (g o).state ≡ true → top (g o).state ≡ true
-    is_top i = state_rule (λ s. spec s && not (ranged s)) top refl (g o).state (both i (neg l.whole))
+    is_top i = state_rule (λ s. spec s && not (ranged s)) top refl (g o).state (both_true i (not_from_false _ l.whole))
 
     meets_o : Here lc x (g o) → Meets g lc x w o (g o)
     meets_o h = record {
@@ -204,8 +205,8 @@ sound_lone {g} {lc} {x} {w} o only l = record { stand = λ p q n hp hq. absurd (
       shared = λ i. inl (l.equal (state_rule is_s clean refl (g o).state i));
       newest = λ i. (o, h, is_top i);
       lowest = λ i. (o, h, (state_rule top owns refl (g o).state (is_top i), l.covers i));
-      next = λ i. absurd (not_both (so_ranged (g o).state i) l.whole);
-      owner = λ i. absurd (not_both (ss_ranged (g o).state i) l.whole);
+      next = λ i. absurd (both_ways _ l.whole (so_ranged (g o).state i));
+      owner = λ i. absurd (both_ways _ l.whole (ss_ranged (g o).state i));
     }
 
 -- no line is sound

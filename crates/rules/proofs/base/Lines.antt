@@ -11,7 +11,9 @@ use Rattle.rules.specs.declared.Line.{Line}
 use Rattle.rules.specs.declared.Pos.{Pos}
 use Rattle.rules.specs.States.{is_i, is_ss, plain, spec, ranged, top, owns}
 use Rattle.rules.specs.Line.{empty, dead, live, hits, is_owner, is_plain, is_share}
-use Rattle.rules.proofs.base.Bools.{both, left, right, neg, not_both, by_test}
+use Rattle.std.specs.Cmp.Derive.{both_true}
+use Rattle.std.proofs.lemmas.Bool.{and_parts, both_ways, not_from_false}
+use Rattle.rules.proofs.base.Bools.{by_test}
 use Rattle.rules.proofs.base.Tests.{Decides, is_test, eq_test, and_test, as_test}
 use Rattle.rules.proofs.base.States.{state_rule, state_not, top_spec, top_not_ranged, plain_not_ranged}
 
@@ -34,10 +36,10 @@ unfolding live dead
 live_test lc l = record { says = go (is_i l.state) refl (ranged l.state) refl (leb l.h lc) refl; when = λ h. rw h.some (when (ranged l.state) refl h) }
   where
     go : (a : Bool) → is_i l.state ≡ a → (b : Bool) → ranged l.state ≡ b → (c : Bool) → leb l.h lc ≡ c → (not a && not (b && c)) ≡ true → Live lc l
-    go true p b q c r h = absurd (not_both h refl)
-    go false p true q true r h = absurd (not_both h refl)
+    go true p b q c r h = absurd (both_ways _ refl h)
+    go false p true q true r h = absurd (both_ways _ refl h)
     go false p true q false r h = record { some = p; fresh = λ t. leb-false l.h lc r }
-    go false p false q c r h = record { some = p; fresh = λ t. absurd (not_both t q) }
+    go false p false q c r h = record { some = p; fresh = λ t. absurd (both_ways _ q t) }
 
     when : (b : Bool) → ranged l.state ≡ b → Live lc l → not (b && leb l.h lc) ≡ true
     when true q h = rw (lt-leb l.h lc (h.fresh q))
@@ -56,7 +58,7 @@ not_here lc x h = absurd (true≢false h.alive.some)
 
 -- a line that is not S-O or S-S lives under every LCVID
 pub whole_here : (lc x : ℕ) (l : Line) → is_i l.state ≡ false → ranged l.state ≡ false → l.address ≡ x → Here lc x l
-whole_here lc x l i r e = record { alive = record { some = i; fresh = λ t. absurd (not_both t r) }; at = e }
+whole_here lc x l i r e = record { alive = record { some = i; fresh = λ t. absurd (both_ways _ r t) }; at = e }
 
 -- ---- hits
 
@@ -69,8 +71,8 @@ pub hits_test : (a : ℕ) (l : Line) → Decides (hits a l) (Hits a l)
 unfolding hits
 hits_test a l =
     record {
-      says = λ h. says (leb-true l.m a (left (leb l.m a) _ h)) (right (leb l.m a) (top l.state || (ranged l.state && ltb a l.h)) h);
-      when = λ h. both (le-leb l.m a h.from) (when h);
+      says = λ h. says (leb-true l.m a ((and_parts (leb l.m a) _ h).0)) ((and_parts (leb l.m a) (top l.state || (ranged l.state && ltb a l.h)) h).1);
+      when = λ h. both_true (le-leb l.m a h.from) (when h);
     }
   where
     says : l.m ≤ a → (top l.state || (ranged l.state && ltb a l.h)) ≡ true → Hits a l
@@ -78,15 +80,15 @@ hits_test a l =
         by_test (top l.state) (λ t. record { is = top_spec l.state t; from = f; until = λ r. top_not_ranged l.state t r })
         (λ t. let k : (ranged l.state && ltb a l.h) ≡ true = simp t at h in
         record {
-          is = state_rule ranged spec refl l.state (left (ranged l.state) (ltb a l.h) k);
+          is = state_rule ranged spec refl l.state ((and_parts (ranged l.state) (ltb a l.h) k).0);
           from = f;
-          until = λ r. ltb-true a l.h (right (ranged l.state) (ltb a l.h) k);
+          until = λ r. ltb-true a l.h ((and_parts (ranged l.state) (ltb a l.h) k).1);
         })
 
     when : Hits a l → (top l.state || (ranged l.state && ltb a l.h)) ≡ true
     when h =
         by_test (top l.state) (λ t. rw t)
-        (λ t. let r = state_rule (λ s. spec s && not (top s)) ranged refl l.state (both h.is (neg t)) in rw (t, r) (lt-ltb a l.h (h.until r)))
+        (λ t. let r = state_rule (λ s. spec s && not (top s)) ranged refl l.state (both_true h.is (not_from_false _ t)) in rw (t, r) (lt-ltb a l.h (h.until r)))
 
 -- a newest version is hit from its m on
 pub top_hits : (a : ℕ) (l : Line) → top l.state ≡ true → l.m ≤ a → Hits a l
@@ -97,7 +99,7 @@ pub dead_misses : (lc a : ℕ) (l : Line) → lc ≤ a → dead lc l ≡ true �
 unfolding dead
 dead_misses lc a l i d =
     by_test (hits a l)
-    (λ h. absurd (let r = left (ranged l.state) (leb l.h lc) d in omega (arith, ((hits_test a l).says h).until r, leb-true l.h lc (right (ranged l.state) (leb l.h lc) d))))
+    (λ h. absurd (let r = (and_parts (ranged l.state) (leb l.h lc) d).0 in omega (arith, ((hits_test a l).says h).until r, leb-true l.h lc ((and_parts (ranged l.state) (leb l.h lc) d).1))))
     (λ h. h)
 
 -- ---- the owner, a plain line and an S-S line of address x

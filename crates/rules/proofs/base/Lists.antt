@@ -9,7 +9,8 @@ use lib.ListN.{length, get_or}
 use Rattle.std.specs.Prelude.{Option, Some, None}
 use Rattle.rules.specs.declared.Pos.{Pos}
 use Rattle.rules.specs.Lists.{one_on, or_else, map_at, all_at, first_at, first_found}
-use Rattle.rules.proofs.base.Bools.{left, right, both}
+use Rattle.std.specs.Cmp.Derive.{both_true}
+use Rattle.std.proofs.lemmas.Bool.{and_parts}
 
 -- what a search among n elements found: it passes; or none passes
 abbrev FoundBy : (ℕ → Bool) → ℕ → Option ℕ → Type 0
@@ -38,13 +39,13 @@ module _ {A : Type 0} where
   pub all_at_lem : (k : ℕ → A → Bool) (l : List A) (d : A) → ((i : ℕ) → k i d ≡ true) → all_at k l ≡ true → (n : ℕ) → k n (get_or l n d) ≡ true
   unfolding all_at
   all_at_lem k [] d h t n = h n
-  all_at_lem k (x ∷ l) d h t zero = left (k 0 x) (all_at (λ i. k (suc i)) l) t
-  all_at_lem k (x ∷ l) d h t (suc n) = all_at_lem (λ i. k (suc i)) l d (λ i. h (suc i)) (right (k 0 x) (all_at (λ i. k (suc i)) l) t) n
+  all_at_lem k (x ∷ l) d h t zero = (and_parts (k 0 x) (all_at (λ i. k (suc i)) l) t).0
+  all_at_lem k (x ∷ l) d h t (suc n) = all_at_lem (λ i. k (suc i)) l d (λ i. h (suc i)) ((and_parts (k 0 x) (all_at (λ i. k (suc i)) l) t).1) n
 
   pub all_of : (k : ℕ → A → Bool) (l : List A) (d : A) → ((n : ℕ) → n < length l → k n (get_or l n d) ≡ true) → all_at k l ≡ true
   unfolding all_at
   all_of k [] d h = refl
-  all_of k (x ∷ l) d h = both (h 0 (suc-le-suc zero-le)) (all_of (λ i. k (suc i)) l d (λ n q. h (suc n) (suc-le-suc q)))
+  all_of k (x ∷ l) d h = both_true (h 0 (suc-le-suc zero-le)) (all_of (λ i. k (suc i)) l d (λ n q. h (suc n) (suc-le-suc q)))
 
   -- the first place that passes: it passes; and where there is none, none passes
   first_by : (k : ℕ → A → Bool) (l : List A) (d : A) → FoundBy (λ i. k i (get_or l i d)) (length l) (first_at k l)

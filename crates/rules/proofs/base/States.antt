@@ -13,7 +13,9 @@ use Rattle.rules.specs.declared.State.{State}
 use Rattle.rules.specs.declared.State.TheVariants.{I, M, O, E, S, SM, SO, SE, SS}
 use Rattle.rules.specs.States.{is_i, is_so, is_ss, plain, spec, ranged, top, owns, stands}
 use Rattle.rules.specs.HouseTest.{imp}
-use Rattle.rules.proofs.base.Bools.{both, left, right, neg, not_both, by_test}
+use Rattle.std.specs.Cmp.Derive.{both_true}
+use Rattle.std.proofs.lemmas.Bool.{and_parts, both_ways, not_from_false}
+use Rattle.rules.proofs.base.Bools.{by_test}
 
 -- ---- rules as tests
 
@@ -50,8 +52,8 @@ at_number s = elim s as (λ (s : State). get_or states (number s) I ≡ s) [ I �
 
 every_at : (f : State → Bool) (l : List State) → every f l ≡ true → (n : ℕ) → n < length l → f (get_or l n I) ≡ true
 every_at f [] h n q = absurd (not-suc-le-zero q)
-every_at f (s ∷ l) h zero q = left (f s) (every f l) h
-every_at f (s ∷ l) h (suc n) q = every_at f l (right (f s) (every f l) h) n (le_of_suc-le-suc q)
+every_at f (s ∷ l) h zero q = (and_parts (f s) (every f l) h).0
+every_at f (s ∷ l) h (suc n) q = every_at f l ((and_parts (f s) (every f l) h).1) n (le_of_suc-le-suc q)
 
 pub by_state : (f : State → Bool) → every_state f ≡ true → (s : State) → f s ≡ true
 by_state f h s = subst (λ (t : State). f t ≡ true) (at_number s) (every_at f states h (number s) (number_small s))
@@ -74,7 +76,7 @@ states_rule f g h s t p = mp {a = f s t} (by_states (λ s t. imp (f s t) (g s t)
 
 -- no state passes both
 pub state_never : {P : Type 0} (f g : State → Bool) → every_state (λ s. imp (f s) (not (g s))) ≡ true → (s : State) → f s ≡ true → g s ≡ true → P
-state_never f g h s p q = absurd (not_both q (state_not f g h s p))
+state_never f g h s p q = absurd (both_ways _ (state_not f g h s p) q)
 
 -- ---- the table
 
@@ -128,13 +130,13 @@ pub ss_ranged : (s : State) → is_ss s ≡ true → ranged s ≡ true
 ss_ranged = state_rule is_ss ranged refl
 
 pub owns_ranged : (s : State) → owns s ≡ true → ranged s ≡ true → is_so s ≡ true
-owns_ranged s p q = state_rule (λ s. owns s && ranged s) is_so refl s (both p q)
+owns_ranged s p q = state_rule (λ s. owns s && ranged s) is_so refl s (both_true p q)
 
 pub owns_cases : (s : State) → owns s ≡ true → (is_so s ≡ true) ⊎ (top s ≡ true)
-owns_cases s h = by_test (is_so s) inl (λ p. inr (state_rule (λ s. owns s && not (is_so s)) top refl s (both h (neg p))))
+owns_cases s h = by_test (is_so s) inl (λ p. inr (state_rule (λ s. owns s && not (is_so s)) top refl s (both_true h (not_from_false _ p))))
 
 pub plain_or_spec : (s : State) → is_i s ≡ false → (plain s ≡ true) ⊎ (spec s ≡ true)
-plain_or_spec s h = by_test (plain s) inl (λ p. inr (state_rule (λ s. not (is_i s) && not (plain s)) spec refl s (both (neg h) (neg p))))
+plain_or_spec s h = by_test (plain s) inl (λ p. inr (state_rule (λ s. not (is_i s) && not (plain s)) spec refl s (both_true (not_from_false _ h) (not_from_false _ p))))
 
 pub top_not_ranged : {P : Type 0} (s : State) → top s ≡ true → ranged s ≡ true → P
 top_not_ranged = state_never top ranged refl
@@ -150,14 +152,14 @@ owns_not_ss = state_never owns is_ss refl
 
 -- plain lines stand with plain ones, speculative ones with speculative ones; no two newest versions
 pub stands_plain : (s t : State) → stands s t ≡ true → plain s ≡ true → plain t ≡ true
-stands_plain s t h p = states_rule (λ s t. stands s t && plain s) (λ s t. plain t) refl s t (both h p)
+stands_plain s t h p = states_rule (λ s t. stands s t && plain s) (λ s t. plain t) refl s t (both_true h p)
 
 pub stands_spec : (s t : State) → stands s t ≡ true → spec s ≡ true → spec t ≡ true
-stands_spec s t h p = states_rule (λ s t. stands s t && spec s) (λ s t. spec t) refl s t (both h p)
+stands_spec s t h p = states_rule (λ s t. stands s t && spec s) (λ s t. spec t) refl s t (both_true h p)
 
 pub top_once : {P : Type 0} (s t : State) → stands s t ≡ true → top s ≡ true → top t ≡ true → P
-top_once s t h p q = absurd (false≢true (states_rule (λ s t. stands s t && (top s && top t)) (λ s t. false) refl s t (both h (both p q))))
+top_once s t h p q = absurd (false≢true (states_rule (λ s t. stands s t && (top s && top t)) (λ s t. false) refl s t (both_true h (both_true p q))))
 
 -- beside a newest version stand S-O and S-S lines
 pub beside_top : (s t : State) → stands s t ≡ true → top s ≡ true → ranged t ≡ true
-beside_top s t h p = states_rule (λ s t. stands s t && top s) (λ s t. ranged t) refl s t (both h p)
+beside_top s t h p = states_rule (λ s t. stands s t && top s) (λ s t. ranged t) refl s t (both_true h p)

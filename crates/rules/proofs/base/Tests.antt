@@ -9,7 +9,9 @@ use borrow.Author.Tests.{ltb-true, lt-ltb, leb-true, le-leb, eqb-true, eq-eqb}
 use Rattle.rules.specs.declared.Pos.{Pos}
 use Rattle.rules.specs.Data.{Data, same_data}
 use Rattle.rules.specs.HouseTest.{imp, same_pos}
-use Rattle.rules.proofs.base.Bools.{both, left, right, not_both, by_test}
+use Rattle.std.specs.Cmp.Derive.{both_true}
+use Rattle.std.proofs.lemmas.Bool.{both_ways, and_parts}
+use Rattle.rules.proofs.base.Bools.{by_test}
 
 pub record Decides (b : Bool) (P : Type 0) : Type 0 where
   pub says : b ≡ true → P
@@ -29,7 +31,7 @@ eq_test a b = record { says = eqb-true a b; when = eq-eqb a b }
 
 module _ {a b : Bool} {P Q : Type 0} (p : Decides a P) (q : Decides b Q) where
   pub and_test : Decides (a && b) (P × Q)
-  and_test = record { says = λ h. (p.says (left a b h), q.says (right a b h)); when = λ h. both (p.when h.0) (q.when h.1) }
+  and_test = record { says = λ h. (p.says ((and_parts a b h).0), q.says ((and_parts a b h).1)); when = λ h. both_true (p.when h.0) (q.when h.1) }
 
   pub or_test : Decides (a || b) (P ⊎ Q)
   or_test = record { says = λ h. by_test a (λ t. inl (p.says t)) (λ t. inr (q.says (simp t at h))); when = or_when }
@@ -45,7 +47,7 @@ module _ {a b : Bool} {P Q : Type 0} (p : Decides a P) (q : Decides b Q) where
   }
 
 pub not_test : {a : Bool} {P : Type 0} → Decides a P → Decides (not a) (P → ⊥)
-not_test {a} p = record { says = λ h x. not_both {b = not a} h (rw (p.when x)); when = λ h. by_test a (λ t. absurd (h (p.says t))) (λ t. rw t) }
+not_test {a} p = record { says = λ h x. both_ways (not a) (rw (p.when x)) h; when = λ h. by_test a (λ t. absurd (h (p.says t))) (λ t. rw t) }
 
 -- the same proposition in other words
 pub as_test : {a : Bool} {P Q : Type 0} → Decides a P → (P → Q) → (Q → P) → Decides a Q

@@ -26,7 +26,7 @@ use Rattle.rules.specs.Reset.{unsettled}
 use Rattle.rules.specs.Evict.{evict_of}
 use Rattle.rules.specs.HouseTest.{is_sound}
 use Rattle.rules.specs.Step.{refuse, acts_with, has_vid, checked, rule_of, step_of}
-use Rattle.rules.proofs.base.Bools.{second_false}
+use Rattle.std.proofs.lemmas.Bool.{and_right}
 use Rattle.rules.proofs.machines.Branches.{load_cases, store_cases, evict_cases}
 
 -- ---- no refusal under 3 to 7
@@ -53,7 +53,7 @@ module _ {μ : Machine} {c v at : ℕ} (A : Admitted μ c v at) where
     where
       go : (v ≡ 0) ⊎ (μ.lcvid < v) → (has_vid v && leb v μ.lcvid) ≡ false
       go (inl e) = rw e refl
-      go (inr l) = second_false (has_vid v) (lt-leb v μ.lcvid l)
+      go (inr l) = and_right (has_vid v) _ (lt-leb v μ.lcvid l)
 
   pub admitted : μ.lcvid < vids μ → (r : Answered) → checked μ c v at r ≡ r
   unfolding checked

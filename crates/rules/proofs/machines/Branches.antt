@@ -23,7 +23,8 @@ use Rattle.rules.specs.Abort.{abort_of}
 use Rattle.rules.specs.Load.{value_of, after_read, share_line, without_stale, is_own_share, load_away, load_owned, plain_data, demote_line, load_cached, load_plain, is_of, is_dirty, load_new, load_by, load_of}
 use Rattle.rules.specs.Store.{misspeculates, misspeculates_plain, bared, version, closed, store_over, store_split, store_new, store_owned, store_by, store_m, store_plain_by, store_of}
 use Rattle.rules.specs.Evict.{spare, write_back, settled_out, evict_of}
-use Rattle.rules.proofs.base.Bools.{left, right, by_test}
+use Rattle.std.proofs.lemmas.Bool.{and_parts}
+use Rattle.rules.proofs.base.Bools.{by_test}
 use Rattle.rules.proofs.base.Lines.{Live, live_test}
 use Rattle.rules.proofs.machines.Places.{find_some, find_none}
 use Rattle.rules.proofs.machines.View.{empty_owner, empty_plain}
@@ -91,7 +92,7 @@ load_cases P μ vid c a x i B = go (find (λ p l. is_owner x a l) μ) refl
     cached none v own None e = place_cases P μ _ c _ μ (B.fetched v none (find_none (λ p l. is_plain x l) μ (λ q. empty_plain x) e)) B.full
 
     plainly : Unowned μ x a → vid ≡ false → (r : Option Pos) → find (λ p l. eqb p.cache c && is_plain x l) μ ≡ r → P (load_plain μ c x i r)
-    plainly none v (Some q) e = B.held v none q (right (eqb q.cache c) (is_plain x (at μ q)) (find_some (λ p l. eqb p.cache c && is_plain x l) μ q e))
+    plainly none v (Some q) e = B.held v none q ((and_parts (eqb q.cache c) (is_plain x (at μ q)) (find_some (λ p l. eqb p.cache c && is_plain x l) μ q e)).1)
     plainly none v None e =
         cached none v (find_none (λ p l. eqb p.cache c && is_plain x l) μ (λ q. by_test (eqb q.cache c) (λ j. rw (j, empty_plain x)) (λ j. rw j)) e)
         (find (λ p l. is_plain x l) μ) refl
@@ -134,7 +135,7 @@ store_cases P μ vid c a x d B = by_test vid (λ v. rw v (with_vid v (find (λ p
         (λ n. by_test (is_sm (at μ o).state && eqb a (at μ o).m) (λ j. rw (n, j) (over v o is n (own j))) (λ j. rw (n, j) (split v o is n j)))
       where
         own : (is_sm (at μ o).state && eqb a (at μ o).m) ≡ true → (at μ o).m ≡ a
-        own j = let e : a ≡ (at μ o).m = eqb-true a (at μ o).m (right (is_sm (at μ o).state) (eqb a (at μ o).m) j) in cc e
+        own j = let e : a ≡ (at μ o).m = eqb-true a (at μ o).m ((and_parts (is_sm (at μ o).state) (eqb a (at μ o).m) j).1) in cc e
 
     with_vid : vid ≡ true → (r : Option Pos) → find (λ p l. is_owner x a l) μ ≡ r → P (store_by μ c a x d r)
     with_vid v (Some o) e = owned v o (find_some (λ p l. is_owner x a l) μ o e)
@@ -163,8 +164,8 @@ evict_cases P μ p some B =
     (λ d. by_test (spare (at μ p).state) (λ c. rw (d, c) (B.spare_line (alive d) c))
     (λ c. by_test (dirty (at μ p).state) (λ e. rw (d, c, e) (B.dirty_line (alive d) e))
     (λ e. by_test (top (at μ p).state && leb (at μ p).h μ.lcvid)
-    (λ t. rw (d, c, e, t) (B.settled (alive d) (left (top (at μ p).state) (leb (at μ p).h μ.lcvid) t)
-    (leb-true (at μ p).h μ.lcvid (right (top (at μ p).state) (leb (at μ p).h μ.lcvid) t))))
+    (λ t. rw (d, c, e, t) (B.settled (alive d) ((and_parts (top (at μ p).state) (leb (at μ p).h μ.lcvid) t).0)
+    (leb-true (at μ p).h μ.lcvid ((and_parts (top (at μ p).state) (leb (at μ p).h μ.lcvid) t).1))))
     (λ t. rw (d, c, e, t) B.over))))
   where
     alive : dead μ.lcvid (at μ p) ≡ false → Live μ.lcvid (at μ p)

@@ -16,7 +16,9 @@ use Rattle.rules.specs.Machine.{at, memory_at, change, drop, put, write, gives}
 use Rattle.rules.specs.House.{LineRules}
 use Rattle.rules.specs.Abort.{abort_of}
 use Rattle.rules.specs.Evict.{spare, write_back, with_shares, settled_out, evict_of}
-use Rattle.rules.proofs.base.Bools.{both, neg, not_both, by_test}
+use Rattle.std.specs.Cmp.Derive.{both_true}
+use Rattle.std.proofs.lemmas.Bool.{both_ways, not_from_false}
+use Rattle.rules.proofs.base.Bools.{by_test}
 use Rattle.rules.proofs.base.States.{state_rule, state_never}
 use Rattle.rules.proofs.base.Lines.{Live, live_test, Here, share_test, pos_dec, not_here}
 use Rattle.rules.proofs.base.LineRules.{rules_empty}
@@ -68,7 +70,7 @@ module _ {N : ℕ} {μ : Machine} (s : Sound N μ) (p : Pos) (some : is_i (at μ
   dead_law d = clear μ.lcvid (keeps_same same (s.each x))
     where
       not_p : (q : Pos) → Here μ.lcvid x (at μ q) → q ≢ p
-      not_p q h e = not_both ((live_test μ.lcvid (at μ p)).when (rw e at h.alive)) (unfold live in rw (some, d) refl)
+      not_p q h e = both_ways (live μ.lcvid (at μ p)) (unfold live in rw (some, d) refl) ((live_test μ.lcvid (at μ p)).when (rw e at h.alive))
 
       same : SameAt μ.lcvid (at μ) (at ν) μ.lcvid x
       same =
@@ -83,7 +85,7 @@ module _ {N : ℕ} {μ : Machine} (s : Sound N μ) (p : Pos) (some : is_i (at μ
 
     spare_law : spare (at μ p).state ≡ true → Keeps N μ ν μ.lcvid x
     spare_law c = clear μ.lcvid (by_test (is_ss (at μ p).state) (λ i. keeps_shares_gone μ.lcvid (λ q. share i q (pos_dec q p)) (s.each x))
-        (λ i. keeps_spare_gone (good s x) p here gone rest μ.lcvid (state_rule (λ s. spare s && not (is_ss s)) (λ s. is_e s || is_s s) refl (at μ p).state (both c (neg i)))))
+        (λ i. keeps_spare_gone (good s x) p here gone rest μ.lcvid (state_rule (λ s. spare s && not (is_ss s)) (λ s. is_e s || is_s s) refl (at μ p).state (both_true c (not_from_false _ i)))))
       where
         share : is_ss (at μ p).state ≡ true → (q : Pos) → Dec (q ≡ p) → (at ν q ≡ at μ q) ⊎ ((is_ss (at μ q).state ≡ true) × (at ν q ≡ empty))
         share i q (yes e) = inr (rw e (i, gone))
@@ -125,10 +127,10 @@ module _ {N : ℕ} {μ : Machine} (s : Sound N μ) (p : Pos) (alive : Live μ.lc
   bare : (q : Pos) → Here δ.lcvid z (at δ q) → is_ss (at δ q).state ≡ true → (at δ q).m ≢ (at δ p).m
   bare q h i j = by_test (is_share y (at μ p).m (at μ q)) (λ k. not_here δ.lcvid z (rw (drop_gone shared μ q k) at h))
       (λ k. let e = drop_stays shared μ q k in
-      not_both ((share_test y (at μ p).m (at μ q)).when (
+      both_ways _ k ((share_test y (at μ p).m (at μ q)).when (
         rw e at i,
         (sym (ap (λ (l : Line). l.address) e) ∙ h.at ∙ same_address, sym (ap (λ (l : Line). l.m) e) ∙ j ∙ ap (λ (l : Line). l.m) same_p),
-      )) k)
+      )))
 
   settled_gone : KeepsAt (at δ) (at (put p empty δ)) δ.lcvid z μ.lcvid (memory_at δ z) (at δ p).word
   settled_gone =
@@ -155,7 +157,7 @@ module _ {N : ℕ} {μ : Machine} (s : Sound N μ) (p : Pos) (alive : Live μ.lc
   unfolding settled_out
   settled_law low =
       by_test (is_sm (at μ p).state) (λ i. rw i (settled_m_law low)) (λ i. rw i
-      (settled_e_law (state_rule (λ s. top s && not (is_sm s)) is_se refl (at μ p).state (both t (neg i)))))
+      (settled_e_law (state_rule (λ s. top s && not (is_sm s)) is_se refl (at μ p).state (both_true t (not_from_false _ i)))))
 
 -- ---- the law of evictions
 

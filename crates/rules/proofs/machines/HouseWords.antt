@@ -15,7 +15,9 @@ use Rattle.rules.specs.States.{is_o, is_e, is_s, is_so, is_se, is_ss, plain, spe
 use Rattle.rules.specs.Line.{live}
 use Rattle.rules.specs.House.{LineRules, Lives, any_state, PlainRules, Join, Among, VersionRules, ShareRules, AddressRules}
 use Rattle.rules.specs.Machine.{at, memory_at, any_line}
-use Rattle.rules.proofs.base.Bools.{both, neg, not_both, by_test}
+use Rattle.std.specs.Cmp.Derive.{both_true}
+use Rattle.std.proofs.lemmas.Bool.{both_ways, not_from_false}
+use Rattle.rules.proofs.base.Bools.{by_test}
 use Rattle.rules.proofs.base.Tests.{Decides, is_test, and_test}
 use Rattle.rules.proofs.base.States.{state_rule, states_rule, owns_spec, owns_ranged, owns_cases, top_owns, so_owns, so_ranged, stands_plain, stands_symmetric}
 use Rattle.rules.proofs.base.Lines.{pos_dec, Here, live_test, here_test, not_here}
@@ -42,7 +44,7 @@ module _ {μ : Machine} {x : ℕ} where
 
 -- by cases: there is an O, or there is none
 by_o : {P : Type 0} (μ : Machine) (x : ℕ) → (SomeAt μ x IsO → P) → (((q : Pos) → Lives μ x is_o q → ⊥) → P) → P
-by_o μ x f g = by_test (any_line test μ) (λ i. let (q, h) = there.says i in f (q, h.0, h.1)) (λ i. g (λ q l. not_both (there.when (q, (lives_here l, l.kind))) i))
+by_o μ x f g = by_test (any_line test μ) (λ i. let (q, h) = there.says i in f (q, h.0, h.1)) (λ i. g (λ q l. both_ways _ i (there.when (q, (lives_here l, l.kind)))))
   where
     test : Pos → Line → Bool
     test q l = (live μ.lcvid l && eqb l.address x) && is_o l.state
@@ -54,10 +56,10 @@ by_o μ x f g = by_test (any_line test μ) (λ i. let (q, h) = there.says i in f
 
 -- beside O stands S; a plain line that stands beside another is O or S
 o_stands : (s t : State) → stands s t ≡ true → is_o s ≡ true → is_s t ≡ true
-o_stands s t h i = states_rule (λ s t. stands s t && is_o s) (λ s t. is_s t) refl s t (both h i)
+o_stands s t h i = states_rule (λ s t. stands s t && is_o s) (λ s t. is_s t) refl s t (both_true h i)
 
 plain_stands : (s t : State) → stands s t ≡ true → plain s ≡ true → is_o s ≡ false → is_s s ≡ true
-plain_stands s t h i n = states_rule (λ s t. stands s t && (plain s && not (is_o s))) (λ s t. is_s s) refl s t (both h (both i (neg n)))
+plain_stands s t h i n = states_rule (λ s t. stands s t && (plain s && not (is_o s))) (λ s t. is_s s) refl s t (both_true h (both_true i (not_from_false _ n)))
 
 module _ {μ : Machine} {x : ℕ} (r : PlainRules μ x) where
   words_two_s : (p q : Pos) → Lives μ x is_s p → Lives μ x is_s q → (at μ p).word ≡ (at μ q).word

@@ -9,7 +9,7 @@ use lib.Dec.{eqb}
 use lib.ListN.{length}
 use Rattle.std.specs.Prelude.{Some}
 use Rattle.rules.specs.declared.State.{State}
-use Rattle.rules.specs.declared.State.TheVariants.{O, E, S, SM, SE}
+use Rattle.rules.specs.declared.State.TheVariants.{E, S, SM, SE}
 use Rattle.rules.specs.declared.Line.{Line}
 use Rattle.rules.specs.declared.Machine.{Machine}
 use Rattle.rules.specs.declared.Pos.{Pos}
@@ -21,7 +21,9 @@ use Rattle.rules.specs.States.{is_i, is_o, is_e, is_s, is_so, is_se, is_ss, plai
 use Rattle.rules.specs.Line.{line, is_owner, is_plain}
 use Rattle.rules.specs.Machine.{pos, at, memory_at, change, drop, put, gives, free_slot}
 use Rattle.rules.specs.Load.{after_read, share_line, without_stale, is_own_share, plain_data, view, demote_line, is_of, is_dirty, load_of}
-use Rattle.rules.proofs.base.Bools.{both, neg, not_both, by_test}
+use Rattle.std.specs.Cmp.Derive.{both_true}
+use Rattle.std.proofs.lemmas.Bool.{both_ways, not_from_false}
+use Rattle.rules.proofs.base.Bools.{by_test}
 use Rattle.rules.proofs.base.Tests.{Decides, is_test, eq_test, and_test}
 use Rattle.rules.proofs.base.States.{state_rule, state_not, owns_spec, owns_cases, ss_ranged, owns_ranged, plain_or_spec}
 use Rattle.rules.proofs.base.Lines.{Here, Hits, hits_test, plain_test, plain_here, whole_here}
@@ -59,7 +61,7 @@ clean_memory {N} {μ} s x a up quiet d = go (view_sees s x a up)
         (λ q l. and_test (is_test (dirty l.state)) (eq_test l.address x)) (λ q h. false≢true h.0)
 
     not_dirty : {P : Type 0} (q : Pos) → Here μ.lcvid x (at μ q) → dirty (at μ q).state ≡ true → P
-    not_dirty q h i = absurd (not_both (dirty_test.when (q, (i, h.at))) d)
+    not_dirty q h i = absurd (both_ways _ d (dirty_test.when (q, (i, h.at))))
 
     beside : (p : Pos) → ((at μ p).word ≡ memory_at μ x) ⊎ There (at μ) μ.lcvid x IsO → (at μ p).word ≡ memory_at μ x
     beside p (inl e) = e
@@ -69,7 +71,7 @@ clean_memory {N} {μ} s x a up quiet d = go (view_sees s x a up)
     go (from_owner p o e) = absurd (quiet p o.here (owns_spec (at μ p).state o.owning))
     go (from_plain p h i e) = e ∙ by_test (is_s (at μ p).state) (λ j. beside p (((s.each x).meets p h).shared j))
         (λ j. by_test (is_e (at μ p).state) (λ k. ((s.each x).meets p h).clean (state_rule is_e (λ s. is_e s || is_se s) refl (at μ p).state k))
-        (λ k. not_dirty p h (state_rule (λ s. plain s && (not (is_s s) && not (is_e s))) dirty refl (at μ p).state (both i (both (neg j) (neg k))))))
+        (λ k. not_dirty p h (state_rule (λ s. plain s && (not (is_s s) && not (is_e s))) dirty refl (at μ p).state (both_true i (both_true (not_from_false _ j) (not_from_false _ k))))))
     go (from_memory n e) = e
 
 module _ {N : ℕ} {μ : Machine} (s : Sound N μ) (vid : Bool) (c a x i : ℕ) (in_range : c < length μ.caches) (small : a < N)
@@ -231,7 +233,7 @@ module _ {N : ℕ} {μ : Machine} (s : Sound N μ) (vid : Bool) (c a x i : ℕ) 
       no_line q h = go (plain_or_spec (at μ q).state h.alive.some)
         where
           go : (plain (at μ q).state ≡ true) ⊎ (spec (at μ q).state ≡ true) → ⊥
-          go (inl j) = not_both ((plain_test x (at μ q)).when (j, h.at)) (bare q)
+          go (inl j) = both_ways _ (bare q) ((plain_test x (at μ q)).when (j, h.at))
           go (inr j) = unowned s x a up none q h j
 
       K : Keeps N μ ν a x

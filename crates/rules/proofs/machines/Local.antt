@@ -14,7 +14,7 @@ use Rattle.rules.specs.Line.{empty, live}
 use Rattle.rules.specs.Machine.{at, memory_at}
 use Rattle.rules.specs.House.{LineRules}
 use Rattle.rules.specs.Load.{view}
-use Rattle.rules.proofs.base.Bools.{not_both}
+use Rattle.std.proofs.lemmas.Bool.{both_ways}
 use Rattle.rules.proofs.base.Lines.{Here, live_test, not_here}
 use Rattle.rules.proofs.address.Sound.{SoundAt, Sees, Mark, KeepsAt, WritesAt}
 use Rattle.rules.proofs.address.Rebuild.{like_same, SameAt, keeps_same, mark_same, mark_made}
@@ -34,7 +34,7 @@ pub off_at : (lc x : ℕ) (l : Line) → l.address ≡ x → Off lc x l
 off_at lc x l e y n h = n (sym h.at ∙ e)
 
 pub off_free : (lc x : ℕ) (l : Line) → live lc l ≡ false → Off lc x l
-off_free lc x l d y n h = not_both ((live_test lc l).when h.alive) d
+off_free lc x l d y n h = both_ways _ d ((live_test lc l).when h.alive)
 
 pub record Local (μ ν : Machine) (x : ℕ) : Type 0 where
   pub last : ν.lcvid ≡ μ.lcvid

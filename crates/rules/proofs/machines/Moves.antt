@@ -15,7 +15,8 @@ use Rattle.rules.specs.Data.{Data, no_data}
 use Rattle.rules.specs.Line.{empty, live}
 use Rattle.rules.specs.Machine.{pos, at, memory_at, change, drop, put, write, free_slot}
 use Rattle.rules.specs.House.{LineRules}
-use Rattle.rules.proofs.base.Bools.{not_both, by_test}
+use Rattle.std.proofs.lemmas.Bool.{both_ways}
+use Rattle.rules.proofs.base.Bools.{by_test}
 use Rattle.rules.proofs.base.Lists.{length_map}
 use Rattle.rules.proofs.base.Lines.{Here, live_test, pos_dec}
 use Rattle.rules.proofs.base.LineRules.{rules_empty}
@@ -63,7 +64,7 @@ module _ (δ : Machine) (c e : ℕ) (l : Line) (slot : free_slot δ c ≡ Some e
   placed_added x h =
       record {
         rest = λ q n. at_put_other δ (pos c e) q l n;
-        free = λ k. not_both ((live_test δ.lcvid (at δ (pos c e))).when k.alive) placed_free;
+        free = λ k. both_ways _ placed_free ((live_test δ.lcvid (at δ (pos c e))).when k.alive);
         here = rw placed_new h;
       }
 

@@ -18,7 +18,8 @@ use Rattle.rules.specs.declared.Pos.{Pos}
 use Rattle.rules.specs.Line.{empty, live}
 use Rattle.rules.specs.Lists.{map_at, all_at, first_at}
 use Rattle.rules.specs.Machine.{pos, no_cache, at, change, drop, put, in_cache, find, is_found, any_line, all_lines, free_slot}
-use Rattle.rules.proofs.base.Bools.{not_both, by_test}
+use Rattle.std.proofs.lemmas.Bool.{both_ways}
+use Rattle.rules.proofs.base.Bools.{by_test}
 use Rattle.rules.proofs.base.Tests.{Decides}
 use Rattle.rules.proofs.base.Lists.{get_d_map, all_at_lem, all_of, first_some, first_none, found_some, found_none}
 use Rattle.rules.proofs.base.Lines.{pos_dec}
@@ -138,7 +139,7 @@ find_none t μ none e p = go (dec_lt p.cache (length μ.caches)) (dec_lt p.slot 
     in_lines None q d h = first_none (λ s l. t (pos p.cache s) l) (lines_of μ p.cache) empty q p.slot h
 
     outside : (Within μ p → ⊥) → t p (at μ p) ≡ false
-    outside n = by_test (t p (at μ p)) (λ i. absurd (n (some_within μ p (λ d. not_both (rw d at i) (none p))))) (λ i. i)
+    outside n = by_test (t p (at μ p)) (λ i. absurd (n (some_within μ p (λ d. both_ways _ (none p) (rw d at i))))) (λ i. i)
 
     go : Dec (p.cache < length μ.caches) → Dec (p.slot < length (lines_of μ p.cache)) → t p (at μ p) ≡ false
     go (yes c) (yes s) =
@@ -170,7 +171,7 @@ any_line_lem k P μ d e = record { says = says (find k μ) refl; when = λ h. wh
 
     when : (p : Pos) × P p (at μ p) → (r : Option Pos) → find k μ ≡ r → is_found r ≡ true
     when h (Some p) q = refl
-    when h None q = absurd (not_both ((d h.0 (at μ h.0)).when h.1) (find_none k μ (λ p. by_test (k p empty) (λ t. absurd (e p ((d p empty).says t))) (λ t. t)) q h.0))
+    when h None q = absurd (both_ways _ (find_none k μ (λ p. by_test (k p empty) (λ t. absurd (e p ((d p empty).says t))) (λ t. t)) q h.0) ((d h.0 (at μ h.0)).when h.1))
 
 -- ---- a free slot
 

@@ -10,7 +10,8 @@ use Rattle.rules.specs.declared.Pos.{Pos}
 use Rattle.rules.specs.Machine.{pos, at, memory_at, drop, put, free_slot}
 use Rattle.rules.specs.House.{LineRules}
 use Rattle.rules.specs.Load.{is_of}
-use Rattle.rules.proofs.base.Bools.{not_both, by_test}
+use Rattle.std.proofs.lemmas.Bool.{both_ways}
+use Rattle.rules.proofs.base.Bools.{by_test}
 use Rattle.rules.proofs.base.Tests.{Decides, eq_test}
 use Rattle.rules.proofs.base.Lines.{Here, not_here, pos_dec}
 use Rattle.rules.proofs.machines.Places.{drop_gone, drop_stays, at_put_other}
@@ -25,7 +26,7 @@ module _ (μ : Machine) (x : ℕ) where
   pub dropped_none : {P : Type 0} (lc : ℕ) (q : Pos) → Here lc x (at (drop (is_of x) μ) q) → P
   dropped_none lc q h =
       by_test (is_of x q (at μ q)) (λ i. not_here lc x (rw (drop_gone (is_of x) μ q i) at h))
-      (λ i. absurd (not_both ((of_test x q (at μ q)).when (rw (drop_stays (is_of x) μ q i) at h.at)) i))
+      (λ i. absurd (both_ways _ i ((of_test x q (at μ q)).when (rw (drop_stays (is_of x) μ q i) at h.at))))
 
   pub dropped_local : Local μ (drop (is_of x) μ) x
   dropped_local = drop_local (is_of x) μ x (λ p i. (of_test x p (at μ p)).says i)

@@ -13,13 +13,15 @@ use Rattle.rules.specs.declared.Pos.{Pos}
 use Rattle.rules.specs.Data.{Data}
 use Rattle.rules.specs.States.{is_i, is_so, is_ss, plain, spec, ranged, top, owns}
 use Rattle.rules.specs.Line.{hits}
-use Rattle.rules.specs.Machine.{at, memory_at, change, with_lcvid}
+use Rattle.rules.specs.Machine.{at, memory_at, change, with_lcvid, any_line}
 use Rattle.rules.specs.House.{LineRules}
 use Rattle.rules.specs.Abort.{settle, settled, abort_line, abort_of}
 use Rattle.rules.specs.Load.{view}
 use Rattle.rules.specs.Commit.{commit_of}
 use Rattle.rules.specs.Reset.{reset_line, reset_of, unsettled}
-use Rattle.rules.proofs.base.Bools.{both, left, neg, not_both, by_test}
+use Rattle.std.specs.Cmp.Derive.{both_true}
+use Rattle.std.proofs.lemmas.Bool.{both_ways, and_parts, not_from_false}
+use Rattle.rules.proofs.base.Bools.{by_test}
 use Rattle.rules.proofs.base.Tests.{is_test, lt_test, and_test}
 use Rattle.rules.proofs.base.States.{state_rule, state_not, so_ranged, so_owns, owns_spec, top_owns, top_spec}
 use Rattle.rules.proofs.base.Lines.{Hits, hits_test, top_hits, Here}
@@ -64,7 +66,7 @@ module _ {N : ℕ} {μ : Machine} (s : Sound N μ) where
   abort_rules p = rw (abort_at μ p) (unfold abort_line in by_test (spec (at μ p).state)
       (λ i. by_test (owns (at μ p).state && hits μ.lcvid (at μ p))
       (λ j. rw (i, j) (rules_plain N (settled (at μ p)) (state_rule owns (λ s. plain (settle s)) refl (at μ p).state
-      (left (owns (at μ p).state) (hits μ.lcvid (at μ p)) j)) refl refl)) (λ j. rw (i, j) (rules_empty N)))
+      ((and_parts (owns (at μ p).state) (hits μ.lcvid (at μ p)) j).0)) refl refl)) (λ j. rw (i, j) (rules_empty N)))
       (λ i. rw i (s.fits p)))
 
   pub abort_last : (abort_of μ).lcvid ≡ μ.lcvid
@@ -108,8 +110,8 @@ module _ {N : ℕ} {μ : Machine} (s : Sound N μ) where
       where
         go : Dec ((at μ p).h ≤ μ.lcvid) → (at μ p).h ≤ μ.lcvid
         go (yes d) = d
-        go (no d) = absurd (not_both ((any_line_lem (λ q l. top l.state && ltb μ.lcvid l.h) (λ q l. (top l.state ≡ true) × (μ.lcvid < l.h)) μ
-            (λ q l. and_test (is_test (top l.state)) (lt_test μ.lcvid l.h)) (λ q h. false≢true h.0)).when (p, (t, omega arith))) (unfold unsettled in quiet))
+        go (no d) = absurd (both_ways (any_line (λ q l. top l.state && ltb μ.lcvid l.h) μ) (unfold unsettled in quiet) ((any_line_lem (λ q l. top l.state && ltb μ.lcvid l.h) (λ q l. (top l.state ≡ true) × (μ.lcvid < l.h)) μ
+            (λ q l. and_test (is_test (top l.state)) (lt_test μ.lcvid l.h)) (λ q h. false≢true h.0)).when (p, (t, omega arith))))
 
     -- no S-O hits LCVID: it would live, and end at or below the m of the newest version
     no_so : (p : Pos) → is_so (at μ p).state ≡ true → hits μ.lcvid (at μ p) ≡ false
@@ -134,7 +136,7 @@ module _ {N : ℕ} {μ : Machine} (s : Sound N μ) where
           top_owns (at μ p).state t,
           (hits_test μ.lcvid (at μ p)).when (top_hits μ.lcvid (at μ p) t (omega (arith, (s.fits p).newest t, settled_high p t))),
         ))
-        (λ t. let k = both (neg i) (both (neg j) (neg t)) in rw (state_not plainest ranged refl (at μ p).state k, t, state_not plainest spec refl (at μ p).state k))))
+        (λ t. let k = both_true (not_from_false _ i) (both_true (not_from_false _ j) (not_from_false _ t)) in rw (state_not plainest ranged refl (at μ p).state k, t, state_not plainest spec refl (at μ p).state k))))
       where
         plainest : State → Bool
         plainest s = not (is_ss s) && (not (is_so s) && not (top s))

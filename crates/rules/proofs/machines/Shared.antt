@@ -21,7 +21,9 @@ use Rattle.rules.specs.Line.{line, is_plain}
 use Rattle.rules.specs.Machine.{pos, at, memory_at, change, drop, put, free_slot}
 use Rattle.rules.specs.House.{LineRules}
 use Rattle.rules.specs.Load.{is_stale_share, demote, demote_line}
-use Rattle.rules.proofs.base.Bools.{both, not_both, by_test}
+use Rattle.std.specs.Cmp.Derive.{both_true}
+use Rattle.std.proofs.lemmas.Bool.{both_ways}
+use Rattle.rules.proofs.base.Bools.{by_test}
 use Rattle.rules.proofs.base.Tests.{Decides, eq_test, and_test}
 use Rattle.rules.proofs.base.States.{state_rule, owns_not_ss}
 use Rattle.rules.proofs.base.Lines.{Here, share_test, plain_test, plain_here, not_here}
@@ -79,7 +81,7 @@ module _ {N : ℕ} {ρ : Machine} (s : Sound N ρ) (c a x e m : ℕ) (d : Data) 
   -- what is left in the asking cache has another m
   single : (q : Pos) → Here δ.lcvid x (at δ q) → is_ss (at δ q).state ≡ true → q.cache ≡ c → (at δ q).m ≢ (at δ o).m
   single q h i j k = by_test (stale q (at ρ q)) (λ z. not_here δ.lcvid x (rw (drop_gone stale ρ q z) at h))
-      (λ z. let e = drop_stays stale ρ q z in not_both ((stale_test c x m q (at ρ q)).when (j, (rw e at i, (rw e at h.at, sym (ap (λ (t : Line). t.m) e) ∙ k ∙ rw same_o same_m)))) z)
+      (λ z. let e = drop_stays stale ρ q z in both_ways _ z ((stale_test c x m q (at ρ q)).when (j, (rw e at i, (rw e at h.at, sym (ap (λ (t : Line). t.m) e) ∙ k ∙ rw same_o same_m)))))
 
   added : KeepsAt (at δ) (at (put (pos c e) l δ)) δ.lcvid x a (memory_at δ x) (memory_at δ x)
   added =
@@ -164,7 +166,7 @@ module _ {N : ℕ} {μ : Machine} (s : Sound N μ) (c a x e : ℕ) (q : Pos) (in
   away_ε p h d =
       let i = was_of p (under_μ p h) in
       let hp = demoted_here μ.lcvid x (at μ p) (rw (demoted_at p i) at (under_μ p h)) in
-      not_both (both (eq-eqb p.cache c (sym d)) ((plain_test x (at μ p)).when (plain_all (good s x) q p hq hp pq, i))) (own p)
+      both_ways _ (own p) (both_true (eq-eqb p.cache c (sym d)) ((plain_test x (at μ p)).when (plain_all (good s x) q p hq hp pq, i)))
 
   pub shared_placed : Keeps N μ (put (pos c e) new_s ε) a x
   shared_placed =

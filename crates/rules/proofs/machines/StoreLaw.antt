@@ -24,7 +24,9 @@ use Rattle.rules.specs.House.{LineRules}
 use Rattle.rules.specs.Abort.{abort_of}
 use Rattle.rules.specs.Load.{plain_data, view, is_of}
 use Rattle.rules.specs.Store.{misspeculates, misspeculates_plain, bared, version, closed, store_of}
-use Rattle.rules.proofs.base.Bools.{both, neg, or_false, not_both, by_test}
+use Rattle.std.specs.Cmp.Derive.{both_true}
+use Rattle.std.proofs.lemmas.Bool.{both_ways, not_from_false, or_parts}
+use Rattle.rules.proofs.base.Bools.{by_test}
 use Rattle.rules.proofs.base.States.{state_rule, owns_not_ss}
 use Rattle.rules.proofs.base.Lines.{Here, live_test, share_test, pos_dec, plain_here, not_here}
 use Rattle.rules.proofs.base.LineRules.{rules_empty, rules_plain, rules_top, rules_closed}
@@ -51,7 +53,7 @@ pub data StoreOutcome (N : ℕ) (μ : Machine) (a x : ℕ) (d : Data) : Answered
 -- an owner over which a store does not misspeculate is S-M or S-E, and was not read above a
 pub unread_top : (a : ℕ) (l : Line) → owns l.state ≡ true → misspeculates a l ≡ false → (top l.state ≡ true) × (l.h ≤ a)
 unfolding misspeculates
-unread_top a l o n = let (i, j) = or_false (is_so l.state) (ltb a l.h) n in (state_rule (λ s. owns s && not (is_so s)) top refl l.state (both o (neg i)), ltb-false a l.h j)
+unread_top a l o n = let (i, j) = or_parts (is_so l.state) (ltb a l.h) n in (state_rule (λ s. owns s && not (is_so s)) top refl l.state (both_true o (not_from_false _ i)), ltb-false a l.h j)
 
 version_rules : (N x a : ℕ) (d : Data) → a < N → 1 ≤ a → LineRules N (version x a d)
 version_rules N x a d small some = rules_top N (version x a d) refl (omega arith) small some (λ c. absurd (false≢true c))
@@ -98,8 +100,8 @@ module _ {N : ℕ} {μ : Machine} (s : Sound N μ) (c a x e : ℕ) (d : Data) (i
 
   bare : (p : Pos) → Here δ.lcvid x (at δ p) → is_ss (at δ p).state ≡ true → (at δ p).m ≢ (at δ o).m
   bare p h i j = by_test (is_share x (at μ o).m (at μ p)) (λ z. not_here δ.lcvid x (rw (drop_gone (λ p l. is_share x (at μ o).m l) μ p z) at h))
-      (λ z. let q = drop_stays (λ p l. is_share x (at μ o).m l) μ p z in not_both
-      ((share_test x (at μ o).m (at μ p)).when (rw q at i, (rw q at h.at, sym (ap (λ (t : Line). t.m) q) ∙ j ∙ rw same_o refl))) z)
+      (λ z. let q = drop_stays (λ p l. is_share x (at μ o).m l) μ p z in both_ways _ z
+      ((share_test x (at μ o).m (at μ p)).when (rw q at i, (rw q at h.at, sym (ap (λ (t : Line). t.m) q) ∙ j ∙ rw same_o refl))))
 
   width : c < length ε.caches
   width = rw (put_width δ o k, drop_width (λ p l. is_share x (at μ o).m l) μ) in_range
@@ -115,7 +117,7 @@ module _ {N : ℕ} {μ : Machine} (s : Sound N μ) (c a x e : ℕ) (d : Data) (i
 
   -- a live line of x at n can only have been the owner's
   free_n : n ≢ o → Here δ.lcvid x (at δ n) → ⊥
-  free_n i h = not_both ((live_test ε.lcvid (at ε n)).when (rw (at_put_other δ o n k i) (unfold put in h.alive))) (placed_free ε c e (version x a d) slot width)
+  free_n i h = both_ways _ (placed_free ε c e (version x a d) slot width) ((live_test ε.lcvid (at ε n)).when (rw (at_put_other δ o n k i) (unfold put in h.alive)))
 
   stored : WritesAt (at δ) (at ν) δ.lcvid x a (memory_at δ x) d → Writes N μ ν a x d
   stored W = keeps_writes dropped up (local_writes dropped.sound
@@ -150,7 +152,7 @@ module _ {N : ℕ} {μ : Machine} (s : Sound N μ) (c a x e : ℕ) (d : Data) (i
       alive_o = rw i (record { alive = record { some = refl; fresh = λ r. new_δ }; at = O.here.at })
 
       apart : o ≢ n
-      apart z = not_both ((live_test ε.lcvid (at ε n)).when (rw (← z, at_o) (unfold put in alive_o.alive))) (placed_free ε c e (version x a d) slot width)
+      apart z = both_ways _ (placed_free ε c e (version x a d) slot width) ((live_test ε.lcvid (at ε n)).when (rw (← z, at_o) (unfold put in alive_o.alive)))
 
 -- ---- no version yet
 
@@ -182,8 +184,8 @@ module _ {N : ℕ} {μ : Machine} (s : Sound N μ) (c a x e f : ℕ) (d : Data) 
 
   two : pos c e ≢ pos c f
   two z =
-      not_both ((live_test β.lcvid (at β (pos c f))).when (rw (← z, at_e) (record { some = refl; fresh = λ r. omega (arith, last_β) })))
-      (placed_free β c f (version x a d) slot' width_β)
+      both_ways _ (placed_free β c f (version x a d) slot' width_β)
+      ((live_test β.lcvid (at β (pos c f))).when (rw (← z, at_e) (record { some = refl; fresh = λ r. omega (arith, last_β) })))
 
   only : (q : Pos) → Here μ.lcvid x (at γ q) → (q ≡ pos c e) ⊎ (q ≡ pos c f)
   only q h = go (pos_dec q (pos c f))
@@ -246,8 +248,8 @@ module _ {N : ℕ} {μ : Machine} (s : Sound N μ) (vid : Bool) (c a x : ℕ) (d
       not_own : (at μ o).m ≢ a
       not_own i =
           let t = (unread_top a (at μ o) own.owning n).0 in
-          let no-SM : is_sm (at μ o).state ≡ false = by_test (is_sm (at μ o).state) (λ k. absurd (not_both (both k (eq-eqb a (at μ o).m (sym i))) j)) (λ k. k) in
-          omega (arith, above v, (s.fits o).zero (state_rule (λ s. top s && not (is_sm s)) is_se refl (at μ o).state (both t (neg no-SM))))
+          let no-SM : is_sm (at μ o).state ≡ false = by_test (is_sm (at μ o).state) (λ k. absurd (both_ways _ j (both_true k (eq-eqb a (at μ o).m (sym i))))) (λ k. k) in
+          omega (arith, above v, (s.fits o).zero (state_rule (λ s. top s && not (is_sm s)) is_se refl (at μ o).state (both_true t (not_from_false _ no-SM))))
 
       below : (at μ o).m < a
       below = let i = not_own in omega (arith, own.hit.from)

@@ -13,7 +13,7 @@ use Rattle.rules.specs.Line.{empty, is_owner, is_plain}
 use Rattle.rules.specs.Machine.{at, memory_at, find}
 use Rattle.rules.specs.House.{One}
 use Rattle.rules.specs.Load.{data_at, plain_data, view}
-use Rattle.rules.proofs.base.Bools.{not_both}
+use Rattle.std.proofs.lemmas.Bool.{both_ways}
 use Rattle.rules.proofs.base.States.{owns_spec, top_spec}
 use Rattle.rules.proofs.base.Lines.{Here, top_hits, owner_test, owner_here, plain_test, plain_here}
 use Rattle.rules.proofs.address.Sound.{OwnerAt, Passes, Sees, from_owner, from_plain, from_memory, Mark}
@@ -55,7 +55,7 @@ module _ {N : ℕ} {μ : Machine} (s : Sound N μ) (x a : ℕ) (up : μ.lcvid �
 
   -- where no owner hits, no speculative line lives, as the lowest m is at most LCVID
   pub unowned : ((q : Pos) → is_owner x a (at μ q) ≡ false) → Quiet μ x
-  unowned none q h i = let o = owner_one q h i in not_both o.holds (none o.place)
+  unowned none q h i = let o = owner_one q h i in both_ways _ (none o.place) o.holds
 
   -- ---- what a sees
 
@@ -66,8 +66,8 @@ module _ {N : ℕ} {μ : Machine} (s : Sound N μ) (x a : ℕ) (up : μ.lcvid �
     where
       past : find (λ q l. is_plain x l) μ ≡ None → (p : Pos) → Here μ.lcvid x (at μ p) → Passes a (memory_at μ x) (at μ p)
       past e p h = record {
-        same = λ i. absurd (not_both ((plain_test x (at μ p)).when (i, h.at)) (find_none (λ q l. is_plain x l) μ (λ q. empty_plain x) e p));
-        later = above (good s x) a (λ q o. not_both (at_owner q o) (none q)) p h;
+        same = λ i. absurd (both_ways _ (find_none (λ q l. is_plain x l) μ (λ q. empty_plain x) e p) ((plain_test x (at μ p)).when (i, h.at)));
+        later = above (good s x) a (λ q o. both_ways _ (none q) (at_owner q o)) p h;
       }
 
       go : (r : Option Pos) → find (λ q l. is_plain x l) μ ≡ r → Sees (at μ) μ.lcvid x (memory_at μ x) a (data_at μ r (memory_at μ x))
