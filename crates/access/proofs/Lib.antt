@@ -6,4 +6,5 @@ pub mod Walk
 pub mod Found
 pub mod Searches
 pub mod Carried
+pub mod Placed
 pub mod Asks

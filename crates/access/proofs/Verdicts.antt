@@ -1,4 +1,4 @@
--- What a verdict says: `checked` gives the refusal, or the rest; and where it passes, the number of the access, its address and its VID are below 64.
+-- What the checks say: `checked` gives the refusal, or the rest; and where they pass, the number of the access, its address and its VID are below 64.
 -- Assumes nothing.
 use mathlib.Core.Path.{◌≡◌, refl, sym, ◌∙◌}
 use mathlib.Core.Bool.{Bool, true, false, cond}
@@ -6,23 +6,25 @@ use Prim.Native.Nat.{ℕ, zero, suc, ◌<◌}
 use native.Mathlib.Omega.{arith}
 use lib.Dec.{leb, ltb}
 use borrow.Author.Tests.{leb-false, ltb-false}
+use Rattle.std.specs.Prelude.{Result, Ok, Err}
 use Rattle.rules.specs.declared.Reason.{Reason}
 use Rattle.rules.specs.declared.Machine.{Machine}
 use Rattle.rules.specs.declared.Answer.TheVariants.{Refused}
 use Rattle.rules.specs.declared.Answered.{Answered}
 use Rattle.rules.specs.Machine.{gives}
 use Rattle.rules.specs.Step.{refuse, acts_with, checked}
-use Rattle.access.specs.declared.checks.Verdict.{Verdict}
-use Rattle.access.specs.declared.checks.Verdict.TheVariants.{Pass, Refuse}
 use Rattle.access.specs.Checks.{judged}
+
+abbrev pub Verdict : Type 0
+Verdict = Result (Unit {0}) Reason
 
 -- the answer that a verdict comes to
 abbrev pub told : Machine → Answered → Verdict → Answered
-told μ rest Pass = rest
-told μ rest (Refuse r) = gives (Refused r) μ
+told μ rest (Ok u) = rest
+told μ rest (Err r) = gives (Refused r) μ
 
 -- one test
-refused_or : (μ : Machine) (rest : Answered) (b : Bool) (r : Reason) (v : Verdict) → refuse b r μ (told μ rest v) ≡ told μ rest (cond b (Refuse r) v)
+refused_or : (μ : Machine) (rest : Answered) (b : Bool) (r : Reason) (v : Verdict) → refuse b r μ (told μ rest v) ≡ told μ rest (cond b (Err r) v)
 refused_or μ rest true r v = refl
 refused_or μ rest false r v = refl
 
@@ -31,8 +33,8 @@ unfolding checked judged
 checked_told μ c v at rest = rw (← refused_or, ← refused_or, ← refused_or, ← refused_or, ← refused_or)
 
 -- a test that was passed
-passed_one : (b : Bool) (r : Reason) (v : Verdict) → cond b (Refuse r) v ≡ Pass → (b ≡ false) × (v ≡ Pass)
-passed_one true r v e = let z : ◌≡◌ {A = ℕ} 0 1 = cc in absurd (omega arith)
+passed_one : (b : Bool) (r : Reason) (v : Verdict) → cond b (Err r) v ≡ Ok tt → (b ≡ false) × (v ≡ Ok tt)
+passed_one true r v e = absurd (cc)
 passed_one false r v e = (refl, e)
 
 pub record Passed (lc v at : ℕ) : Type 0 where
@@ -44,7 +46,7 @@ below : (lc v : ℕ) → lc < 64 → v < 64 → acts_with lc v < 64
 below lc zero p q = p
 below lc (suc v) p q = q
 
-pub passed : {r : Verdict} (count lc c v at : ℕ) → r ≡ judged count lc c v at → r ≡ Pass → Passed lc v at
+pub passed : {r : Verdict} (count lc c v at : ℕ) → r ≡ judged count lc c v at → r ≡ Ok tt → Passed lc v at
 unfolding judged
 passed count lc c v at j p =
     let sound = passed_one (leb 64 lc) _ _ (sym j ∙ p) in

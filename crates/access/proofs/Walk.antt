@@ -15,10 +15,9 @@ use Rattle.rules.specs.Lists.{or_else, first_at}
 use Rattle.rules.specs.Load.{is_own_share, is_dirty}
 use Rattle.rules.specs.Machine.{pos, no_cache, at, in_cache, find, is_found, any_line}
 use Rattle.rules.specs.States.{dirty}
-use Rattle.access.specs.declared.look.Held.{Held}
-use Rattle.access.specs.declared.look.Held.TheVariants.{Here, Nothing}
+use Rattle.rules.specs.declared.Held.{Held}
 use Rattle.access.specs.declared.look.Seen.{Seen}
-use Rattle.access.specs.Look.{owning, own_plain, any_plain, held_at, seen_of, unseen, kept, with_line, over, with_cache}
+use Rattle.access.specs.Look.{owning, own_plain, any_plain, held, held_at, seen_of, unseen, kept, with_line, over, with_cache}
 use Rattle.access.proofs.Over.{here, over_part, over_each, over_finds, first_in}
 
 -- ---- a line, by its address
@@ -27,9 +26,9 @@ use Rattle.access.proofs.Over.{here, over_part, over_each, over_finds, first_in}
 pub own_address : (c a x : ℕ) (p : Pos) (l : Line) (seen : Seen) → l.address ≡ x → with_line c a l.address p l seen ≡ with_line c a x p l seen
 own_address c a x p l seen e = ap (λ (y : ℕ). with_line c a y p l seen) e
 
-none_kept : (h : Held) (p : Pos) (l : Line) → kept h false p l ≡ h
-none_kept (Here q k) p l = refl
-none_kept Nothing p l = refl
+none_kept : (f : Option Held) (h : Held) → kept f false h ≡ f
+none_kept (Some g) h = refl
+none_kept None h = refl
 
 -- of another address nothing is seen
 pub another_address : (c a x : ℕ) (p : Pos) (l : Line) (seen : Seen) → eqb l.address x ≡ false → with_line c a x p l seen ≡ seen
@@ -58,17 +57,17 @@ module _ {S : Type 0} where
 -- ---- one kind by itself
 
 -- where what is held stands
-abbrev place_of : Held → Option Pos
-place_of (Here p l) = Some p
-place_of Nothing = None
+abbrev place_of : Option Held → Option Pos
+place_of (Some h) = Some h.place
+place_of None = None
 
 module _ (t : Pos → Line → Bool) (μ : Machine) where
   -- what a line that passes adds: its place, itself, that there is one
   abbrev placing : Pos → Line → Option Pos → Option Pos
   placing p l f = or_else f (here (t p l) p)
 
-  abbrev keeping : Pos → Line → Held → Held
-  keeping p l h = kept h (t p l) p l
+  abbrev keeping : Pos → Line → Option Held → Option Held
+  keeping p l f = kept f (t p l) (held p l)
 
   abbrev noting : Pos → Line → Bool → Bool
   noting p l b = b || t p l
@@ -95,24 +94,24 @@ module _ (t : Pos → Line → Bool) (μ : Machine) where
       found_or None false p = refl
 
   -- what is held stands where the search finds it
-  held_place : place_of (walk keeping μ Nothing) ≡ find t μ
-  held_place = walk_part place_of keeping placing (λ p l h. place_or h (t p l) p l) μ Nothing ∙ places
+  held_place : place_of (walk keeping μ None) ≡ find t μ
+  held_place = walk_part place_of keeping placing (λ p l f. place_or f (t p l) p l) μ None ∙ places
     where
-      place_or : (h : Held) (b : Bool) (p : Pos) (l : Line) → place_of (kept h b p l) ≡ or_else (place_of h) (here b p)
-      place_or (Here q k) b p l = refl
-      place_or Nothing true p l = refl
-      place_or Nothing false p l = refl
+      place_or : (f : Option Held) (b : Bool) (p : Pos) (l : Line) → place_of (kept f b (held p l)) ≡ or_else (place_of f) (here b p)
+      place_or (Some h) b p l = refl
+      place_or None true p l = refl
+      place_or None false p l = refl
 
   -- and is the line of its place
-  held_line : walk keeping μ Nothing ≡ held_at μ (place_of (walk keeping μ Nothing))
-  held_line = walk_each (λ (h : Held). h ≡ held_at μ (place_of h)) keeping μ (λ p h. stands h (t p (at μ p)) p) Nothing refl
+  held_line : walk keeping μ None ≡ held_at μ (place_of (walk keeping μ None))
+  held_line = walk_each (λ (f : Option Held). f ≡ held_at μ (place_of f)) keeping μ (λ p f. stands f (t p (at μ p)) p) None refl
     where
-      stands : (h : Held) (b : Bool) (p : Pos) → h ≡ held_at μ (place_of h) → kept h b p (at μ p) ≡ held_at μ (place_of (kept h b p (at μ p)))
-      stands (Here q k) b p e = e
-      stands Nothing true p e = refl
-      stands Nothing false p e = refl
+      stands : (f : Option Held) (b : Bool) (p : Pos) → f ≡ held_at μ (place_of f) → kept f b (held p (at μ p)) ≡ held_at μ (place_of (kept f b (held p (at μ p))))
+      stands (Some h) b p e = e
+      stands None true p e = refl
+      stands None false p e = refl
 
-  keeps : walk keeping μ Nothing ≡ held_at μ (find t μ)
+  keeps : walk keeping μ None ≡ held_at μ (find t μ)
   keeps = held_line ∙ ap (held_at μ) held_place
 
 -- ---- all kinds
@@ -121,7 +120,7 @@ abbrev any_dirty : ℕ → Pos → Line → Bool
 any_dirty x p l = dirty l.state && eqb l.address x
 
 -- what is seen, by its parts
-seen_by : (s : Seen) {o h w p : Held} {d : Bool} → s.owner ≡ o → s.share ≡ h → s.own ≡ w → s.plain ≡ p → s.dirty ≡ d
+seen_by : (s : Seen) {o h w p : Option Held} {d : Bool} → s.owner ≡ o → s.share ≡ h → s.own ≡ w → s.plain ≡ p → s.dirty ≡ d
     → s ≡ record { owner = o; share = h; own = w; plain = p; dirty = d }
 seen_by s eo eh ew ep ed = rw (← eo, ← eh, ← ew, ← ep, ← ed)
 
@@ -130,8 +129,8 @@ module _ (μ : Machine) (c a x : ℕ) where
   walked = over (with_cache c a x) μ.caches unseen
 
   -- one kind: f reads it off
-  kind : (t : Pos → Line → Bool) (f : Seen → Held) → ((p : Pos) (l : Line) (seen : Seen) → f (with_line c a x p l seen) ≡ kept (f seen) (t p l) p l)
-      → f unseen ≡ Nothing → f walked ≡ held_at μ (find t μ)
+  kind : (t : Pos → Line → Bool) (f : Seen → Option Held) → ((p : Pos) (l : Line) (seen : Seen) → f (with_line c a x p l seen) ≡ kept (f seen) (t p l) (held p l))
+      → f unseen ≡ None → f walked ≡ held_at μ (find t μ)
   kind t f each none = walk_part f (with_line c a x) (keeping t μ) each μ unseen ∙ rw none (keeps t μ)
 
   any_dirty_lem : walked.dirty ≡ is_dirty μ x

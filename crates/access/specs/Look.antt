@@ -1,16 +1,17 @@
 -- What a load or a store of cache c, which acts with number a on address x, needs to know of the machine: the first line of each kind, and where it stands.
 -- Assumes nothing.
-use Rattle.std.specs.Prelude.{Bool, false, cond, ◌&&◌, ◌||◌, List, [], ◌∷◌, ℕ, suc, eqb, Option, Some, None}
+use Rattle.std.specs.Prelude.{Bool, false, ◌&&◌, ◌||◌, List, [], ◌∷◌, ℕ, suc, eqb, Option, Some, None}
+use Rattle.std.specs.Bool.{then_some}
+use Rattle.std.specs.Option.{option_or}
 use Rattle.rules.specs.declared.Line.{Line}
 use Rattle.rules.specs.declared.Cache.{Cache}
 use Rattle.rules.specs.declared.Machine.{Machine}
 use Rattle.rules.specs.declared.Pos.{Pos}
+use Rattle.rules.specs.declared.Held.{Held}
 use Rattle.rules.specs.States.{dirty}
 use Rattle.rules.specs.Line.{is_owner, is_plain}
 use Rattle.rules.specs.Machine.{pos, at, find}
 use Rattle.rules.specs.Load.{is_own_share, is_dirty}
-use Rattle.access.specs.declared.look.Held.{Held}
-use Rattle.access.specs.declared.look.Held.TheVariants.{Here, Nothing}
 use Rattle.access.specs.declared.look.Seen.{Seen}
 
 -- the four kinds
@@ -24,9 +25,12 @@ abbrev pub any_plain : ℕ → Pos → Line → Bool
 any_plain x p l = is_plain x l
 
 -- what was found, with its line
-abbrev pub held_at : Machine → Option Pos → Held
-held_at μ (Some p) = Here p (at μ p)
-held_at μ None = Nothing
+abbrev pub held : Pos → Line → Held
+held p l = record { place = p; line = l }
+
+abbrev pub held_at : Machine → Option Pos → Option Held
+held_at μ (Some p) = Some (held p (at μ p))
+held_at μ None = None
 
 unfoldable pub seen_of : Machine → ℕ → ℕ → ℕ → Seen
 seen_of μ c a x = record {
@@ -40,19 +44,18 @@ seen_of μ c a x = record {
 -- ---- the same in one, line by line
 
 abbrev pub unseen : Seen
-unseen = record { owner = Nothing; share = Nothing; own = Nothing; plain = Nothing; dirty = false }
+unseen = record { owner = None; share = None; own = None; plain = None; dirty = false }
 
 -- the first that passes stays
-abbrev pub kept : Held → Bool → Pos → Line → Held
-kept (Here q k) passes p l = Here q k
-kept Nothing passes p l = cond passes (Here p l) Nothing
+abbrev pub kept : Option Held → Bool → Held → Option Held
+kept f passes h = option_or f (then_some passes h)
 
 unfoldable pub with_line : ℕ → ℕ → ℕ → Pos → Line → Seen → Seen
 with_line c a x p l seen = record {
-  owner = kept seen.owner (owning x a p l) p l;
-  share = kept seen.share (is_own_share c x a p l) p l;
-  own = kept seen.own (own_plain c x p l) p l;
-  plain = kept seen.plain (any_plain x p l) p l;
+  owner = kept seen.owner (owning x a p l) (held p l);
+  share = kept seen.share (is_own_share c x a p l) (held p l);
+  own = kept seen.own (own_plain c x p l) (held p l);
+  plain = kept seen.plain (any_plain x p l) (held p l);
   dirty = seen.dirty || (dirty l.state && eqb l.address x);
 }
 

@@ -16,52 +16,34 @@ ghost use Rattle.std.specs.Prelude.{◌≡◌};
 ghost use Rattle.rules.specs.declared.Op.TheVariants.{Load, Store};
 ghost use Rattle.rules.specs.Step.{rule_of};
 
-use ask::{Asking, ask};
-use loads::load_plan;
+use ask::ask;
 use moves::refused;
 use plans::carry;
 use rules::{Answered, Machine};
-use stores::{Search, misspeculation, search_owner, store_plan};
+use stores::misspeculation;
 
 // A load of the address `at` by a cache, plain where `vid` is 0.
+#[tactic(auto, using(crate::proofs::Asks::barred), unfolding(rules::specs::Step::rule_of))]
 pub fn load(machine: Machine, cache: usize, vid: u64, at: u64) -> Answered
     ensures { result ≡ rule_of machine (Load cache vid at) }
 {
-    let asking = ask(machine, cache, vid, at);
-    match asking {
-        Asking::Barred(reason) => refused(machine, reason),
-        Asking::Goes(asked) => {
-            let seen = asked.seen;
-            let plan = load_plan(seen, asked.memory, asked.vid, cache, asked.a, asked.x);
-            carry(machine, cache, plan)
-        }
+    match ask(&machine, cache, vid, at) {
+        Ok(asked) => carry(machine, asked.access.cache, asked.load_plan()),
+        Err(reason) => refused(machine, reason),
     }
 }
 
 // The store of `word` at the address `at` by a cache, plain where `vid` is 0.
+#[tactic(auto, using(crate::proofs::Asks::barred), unfolding(rules::specs::Step::rule_of))]
 pub fn store(machine: Machine, cache: usize, vid: u64, at: u64, word: u64) -> Answered
     ensures { result ≡ rule_of machine (Store cache vid at word) }
 {
-    let asking = ask(machine, cache, vid, at);
-    match asking {
-        Asking::Barred(reason) => refused(machine, reason),
-        Asking::Goes(asked) => {
-            let seen = asked.seen;
-            let found = seen.owner;
-            let Search::Clear(owner) = search_owner(found, asked.a) else {
-                return misspeculation(machine);
-            };
-            let plain = seen.plain;
-            let plan = store_plan(
-                owner,
-                plain,
-                asked.memory,
-                asked.vid,
-                asked.a,
-                asked.x,
-                word,
-            );
-            carry(machine, cache, plan)
-        }
-    }
+    let asked = match ask(&machine, cache, vid, at) {
+        Ok(asked) => asked,
+        Err(reason) => return refused(machine, reason),
+    };
+    let Ok(owner) = asked.search_owner() else {
+        return misspeculation(machine);
+    };
+    carry(machine, asked.access.cache, asked.store_plan(owner, word))
 }

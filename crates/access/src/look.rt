@@ -1,96 +1,96 @@
 // One look over all lines, which tells a load or a store what it needs to know of its address.
 ghost use Rattle.std.specs.Prelude.{◌≡◌};
-ghost use Rattle.access.specs.Look.{kept, with_line, with_cache, seen_of};
+ghost use Rattle.access.specs.Look.{unseen, kept, with_line, with_cache, seen_of};
 
-use lines::{can_own, hits, is_dirty, is_plain, is_ss};
-use rules::{Cache, Line, Machine, Pos};
+use rules::{Cache, Held, Line, Machine, Pos, State};
 
-// A line and where it stands, or none.
+// A load or store: the asking cache, whether it has a VID, the number that it acts with, and the address.
 #[derive(Clone, Copy)]
-pub enum Held {
-    Here(Pos, Line),
-    Nothing,
+pub struct Access {
+    pub cache: usize,
+    pub vid: bool,
+    pub a: u16,
+    pub x: u16,
 }
 
 // The first line of each kind: the owner, an S-S of the asker that hits, a plain line of the asker, a plain line; and whether there is an M or O.
 #[derive(Clone, Copy)]
 pub struct Seen {
-    pub owner: Held,
-    pub share: Held,
-    pub own: Held,
-    pub plain: Held,
+    pub owner: Option<Held>,
+    pub share: Option<Held>,
+    pub own: Option<Held>,
+    pub plain: Option<Held>,
     pub dirty: bool,
 }
 
-// The first that passes stays.
-fn keep(held: Held, passes: bool, p: Pos, l: Line) -> Held
-    ensures { result ≡ kept held passes p l }
-{
-    match held {
-        Held::Here(q, k) => Held::Here(q, k),
-        Held::Nothing => {
-            if passes {
-                return Held::Here(p, l);
-            }
-            Held::Nothing
+impl Seen {
+    fn nothing() -> Seen
+        ensures { result ≡ unseen }
+    {
+        Seen {
+            owner: None,
+            share: None,
+            own: None,
+            plain: None,
+            dirty: false,
+        }
+    }
+
+    // A line of the address that is looked for: of each kind the first that passes stays.
+    fn with_line(self, access: Access, held: Held) -> Seen
+        ensures { result ≡ with_line access.cache access.a held.line.address held.place held.line self }
+    {
+        let Held { place, line } = held;
+        let state = line.state;
+        let hit = line.hits(access.a);
+        let mine = place.cache == access.cache;
+        let plain = state.is_plain();
+        Seen {
+            owner: keep(self.owner, state.can_own() & hit, held),
+            share: keep(self.share, mine & ((state == State::SS) & hit), held),
+            own: keep(self.own, mine & plain, held),
+            plain: keep(self.plain, plain, held),
+            dirty: self.dirty | state.is_dirty(),
         }
     }
 }
 
-// A line of the address that is looked for.
-#[tactic(auto, unfolding(crate::specs::Look::with_line, rules::specs::Line::is_owner, rules::specs::Line::is_plain, rules::specs::Load::is_own_share))]
-fn see(seen: Seen, cache: usize, a: u16, p: Pos, l: Line) -> Seen
-    ensures { result ≡ with_line cache a l.address p l seen }
+// The first that passes stays. As a test and not as `or`, which is slower.
+fn keep(first: Option<Held>, passes: bool, held: Held) -> Option<Held>
+    ensures { result ≡ kept first passes held }
 {
-    let s = l.state;
-    let hit = hits(a, l);
-    let owns = can_own(s);
-    let ss = is_ss(s);
-    let plain = is_plain(s);
-    let dirty = is_dirty(s);
-    let mine = p.cache == cache;
-    let was_owner = seen.owner;
-    let was_share = seen.share;
-    let was_own = seen.own;
-    let was_plain = seen.plain;
-    Seen {
-        owner: keep(was_owner, owns & hit, p, l),
-        share: keep(was_share, mine & (ss & hit), p, l),
-        own: keep(was_own, mine & plain, p, l),
-        plain: keep(was_plain, plain, p, l),
-        dirty: seen.dirty | dirty,
+    if passes && first.is_none() {
+        Some(held)
+    } else {
+        first
     }
 }
 
-// The cache `k`, which is number `c`.
-fn see_cache(k: Cache, c: usize, cache: usize, a: u16, x: u16, before: Seen) -> Seen
-    ensures { result ≡ with_cache cache a x c k before }
+// The lines of the cache with this number.
+fn see_lines(lines: &[Line], number: usize, access: Access, before: Seen) -> Seen
+    ensures { result ≡ with_cache access.cache access.a access.x number (record { lines = lines.now }) before }
 {
     let mut seen = before;
-    for s in 0..16 {
-        let l = k.lines[s];
-        if l.address == x {
-            let p = Pos { cache: c, slot: s };
-            seen = see(seen, cache, a, p, l);
+    for (slot, line) in lines.iter().enumerate() {
+        if line.address == access.x {
+            let place = Pos {
+                cache: number,
+                slot,
+            };
+            seen = seen.with_line(access, Held { place, line: *line });
         }
     }
     seen
 }
 
-// What a load or store of the cache, which acts with `a`, sees of the address `x`.
-pub fn look(machine: Machine, cache: usize, a: u16, x: u16) -> Seen
-    ensures { result ≡ seen_of machine cache a x }
+// What an access sees of its address.
+pub fn look(machine: &Machine, access: Access) -> Seen
+    ensures { result ≡ seen_of machine.now access.cache access.a access.x }
 {
-    let mut seen = Seen {
-        owner: Held::Nothing,
-        share: Held::Nothing,
-        own: Held::Nothing,
-        plain: Held::Nothing,
-        dirty: false,
-    };
-    for c in 0..4 {
-        let k = machine.caches[c];
-        seen = see_cache(k, c, cache, a, x, seen);
+    let caches: &[Cache] = &machine.caches;
+    let mut seen = Seen::nothing();
+    for (number, cache) in caches.iter().enumerate() {
+        seen = see_lines(&cache.lines, number, access, seen);
     }
     seen
 }

@@ -1,68 +1,75 @@
 // What a load or a store does to the machine, as a plan, and the plan carried out.
 ghost use Rattle.std.specs.Prelude.{◌≡◌};
-ghost use Rattle.access.specs.Plan.{held_word, carried};
+ghost use Rattle.access.specs.Plan.{answering, Lands, carried};
 
-use crate::look::Held;
-use moves::{Change, change_in, place, place_two, stays};
-use rules::{Answer, Answered, Line, Machine};
+use moves::{Change, change_all, place_in, put_in, refused};
+use rules::{Answer, Answered, Held, Line, Machine, Reason};
 
 // The lines that the asker places.
 #[derive(Clone, Copy)]
 pub enum Places {
-    None,
+    Nothing,
     One(Line),
     Two(Line, Line),
+}
+
+impl Places {
+    // Into the lowest free slots of a cache, one line after the other; or refusal 11.
+    #[tactic(auto, using(crate::proofs::Placed::one_lands, crate::proofs::Placed::first_refused))]
+    fn place_in(self, machine: &mut Machine, cache: usize) -> Result<(), Reason>
+        ensures { Lands cache self machine.old machine.new result }
+    {
+        match self {
+            Places::Nothing => Ok(()),
+            Places::One(line) => place_in(machine, cache, line),
+            Places::Two(first, second) => {
+                place_in(machine, cache, first)?;
+                place_in(machine, cache, second)
+            },
+        }
+    }
 }
 
 // A line is put in its slot, then all lines change, then the asker places, which may be refused.
 #[derive(Clone, Copy)]
 pub struct Plan {
     pub answer: Answer,
-    pub put: Held,
+    pub put: Option<Held>,
     pub change: Change,
     pub places: Places,
 }
 
-// The plan carried out by a cache.
-pub fn carry(machine: Machine, cache: usize, plan: Plan) -> Answered
-    ensures { result ≡ carried machine cache plan }
-{
-    let mut next = machine;
-    let put = plan.put;
-    if let Held::Here(p, l) = put {
-        let i = p.cache;
-        let s = p.slot;
-        if (i < 4) & (s < 16) {
-            let mut k = next.caches[i];
-            k.lines[s] = l;
-            next.caches[i] = k;
-        }
-    }
-    let change = plan.change;
-    if !stays(change) {
-        for c in 0..4 {
-            let k = next.caches[c];
-            next.caches[c] = change_in(k, c, change);
-        }
-    }
-    let answer = plan.answer;
-    let places = plan.places;
-    match places {
-        Places::None => Answered {
+impl Plan {
+    // The plan that answers, and changes nothing.
+    pub fn answering(answer: Answer) -> Plan
+        ensures { result ≡ answering answer }
+    {
+        Plan {
             answer,
-            machine: next,
-        },
-        Places::One(l) => place(machine, answer, cache, l, next),
-        Places::Two(k, l) => place_two(machine, answer, cache, k, l, next),
+            put: None,
+            change: Change::Stay,
+            places: Places::Nothing,
+        }
     }
 }
 
-// The word of the line that was found, else the other.
-pub fn word_of(held: Held, other: u64) -> u64
-    ensures { result ≡ held_word held other }
+// The plan carried out by a cache.
+#[tactic(auto, using(crate::proofs::Carried::stays_changes), unfolding(crate::specs::Plan::carried))]
+pub fn carry(machine: Machine, cache: usize, plan: Plan) -> Answered
+    ensures { result ≡ carried machine cache plan }
 {
-    match held {
-        Held::Here(_, l) => l.word,
-        Held::Nothing => other,
+    let mut done = Answered {
+        answer: plan.answer,
+        machine,
+    };
+    if let Some(Held { place, line }) = plan.put {
+        put_in(&mut done.machine, place, line);
+    }
+    if !plan.change.stays() {
+        change_all(&mut done.machine, plan.change);
+    }
+    match plan.places.place_in(&mut done.machine, cache) {
+        Ok(()) => done,
+        Err(reason) => refused(machine, reason),
     }
 }

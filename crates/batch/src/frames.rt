@@ -1,56 +1,75 @@
-// Standard input: a byte, the length of a text, a text as far as there is room for it, and what is left of it.
+// Standard input as frames: what is asked for, the length of a text, and the text as far as there is room for it.
 ghost use Rattle.std.specs.Prelude.{◌≤◌};
 ghost use Rattle.io.specs.Counts.{IsPrefixLen};
 
-// A byte, or the end of the input.
+// What a frame asks for: the report, or the report with the machine shown.
 #[derive(Clone, Copy)]
-pub enum Byte {
-    Is(u8),
-    End,
+pub enum Wanted {
+    Report,
+    Shown,
 }
 
-// The length of a text, or no length where none is written.
+// A letter that asks for nothing.
 #[derive(Clone, Copy)]
-pub enum Length {
-    Is(usize),
-    Bad,
+pub struct UnknownLetter;
+
+impl TryFrom<u8> for Wanted {
+    type Error = UnknownLetter;
+
+    fn try_from(letter: u8) -> Result<Self, UnknownLetter> {
+        match letter {
+            b'r' => Ok(Wanted::Report),
+            b'm' => Ok(Wanted::Shown),
+            _ => Err(UnknownLetter),
+        }
+    }
 }
 
-pub fn next_byte() -> Byte {
+#[derive(Clone, Copy)]
+pub struct Frame<'a> {
+    pub wanted: Wanted,
+    pub text: &'a [u8],
+}
+
+// The next frame, if there is one. A text that is longer than the buffer is kept as far as there is room.
+pub fn next_frame(buffer: &mut [u8]) -> Option<Frame<'_>> {
+    let wanted = Wanted::try_from(next_byte()?).ok()?;
+    let length = read_length()?;
+    let got = read_part(buffer, length);
+    if !skip(length - got) {
+        return None;
+    }
+    Some(Frame {
+        wanted,
+        text: &buffer[..got],
+    })
+}
+
+// The next byte, if the input goes on.
+fn next_byte() -> Option<u8> {
     let mut one = [0u8; 1];
-    let got = io::read_full(0, &mut one);
-    if got == 0 {
-        return Byte::End;
+    if io::read_full(0, &mut one) == 0 {
+        return None;
     }
-    Byte::Is(one[0])
+    Some(one[0])
 }
 
-// The decimal number before the next LF. Ten digits are more than any text needs, and keep the sums from wrapping.
-pub fn read_length() -> Length {
+// The decimal number before the next LF, if one is written there. Ten digits are more than any text needs, and keep the sums from wrapping.
+fn read_length() -> Option<usize> {
     let mut n: usize = 0;
-    for i in 0usize..11 {
-        let Byte::Is(b) = next_byte() else {
-            return Length::Bad;
-        };
-        if b == b'\n' {
-            if i == 0 {
-                return Length::Bad;
-            }
-            return Length::Is(n);
+    for i in 0..11usize {
+        match next_byte()? {
+            b'\n' if i == 0 => return None,
+            b'\n' => return Some(n),
+            digit @ b'0'..=b'9' => n = n * 10 + usize::from(digit - b'0'),
+            _ => return None,
         }
-        if b < 48 {
-            return Length::Bad;
-        }
-        if 57 < b {
-            return Length::Bad;
-        }
-        n = n * 10 + (b - 48) as usize;
     }
-    Length::Bad
+    None
 }
 
 // Reads as many bytes as are asked for, or as many as the buffer holds; fewer only where the input ends.
-pub fn read_part(buffer: &mut [u8], count: usize) -> usize
+fn read_part(buffer: &mut [u8], count: usize) -> usize
     ensures { (result ≤ count) × IsPrefixLen result buffer.new }
 {
     if count < buffer.len() {
@@ -60,7 +79,7 @@ pub fn read_part(buffer: &mut [u8], count: usize) -> usize
 }
 
 // Reads that many bytes and throws them away; false where the input ends before.
-pub fn skip(count: usize) -> bool {
+fn skip(count: usize) -> bool {
     let mut buffer = [0u8; 4096];
     let mut left = count;
     while 0 < left {

@@ -1,9 +1,9 @@
 // Cases on real machines, each printing what its steps answer; that is held to the file stdout.
 #![tactic(auto)]
 
+mod case;
 mod edges;
 mod house;
-mod play;
 mod refusals;
 
 fn main() {

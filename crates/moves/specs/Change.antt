@@ -1,9 +1,12 @@
--- What a change does to each line: for each `Change`, the rules' change of one line.
+-- What a change does to each line: for each `Change`, the rules' change of one line; and to a cache.
 -- Assumes nothing.
-use Rattle.std.specs.Prelude.{Bool, true, false, cond, eqb}
+use Rattle.std.specs.Prelude.{Bool, true, false, cond, ℕ, eqb}
 use Rattle.rules.specs.declared.Line.{Line}
+use Rattle.rules.specs.declared.Cache.{Cache}
 use Rattle.rules.specs.declared.Pos.{Pos}
+use Rattle.rules.specs.Lists.{map_at}
 use Rattle.rules.specs.Line.{empty, is_share}
+use Rattle.rules.specs.Machine.{pos}
 use Rattle.rules.specs.Load.{is_of, is_stale_share, demote_line}
 use Rattle.rules.specs.Abort.{abort_line}
 use Rattle.rules.specs.Reset.{reset_line}
@@ -18,6 +21,10 @@ changed (Demote x) = λ p l. demote_line x l
 changed (Abort lc) = λ p l. abort_line lc l
 changed Reset = λ p l. reset_line l
 changed Stay = λ p l. l
+
+-- what becomes of cache c
+abbrev pub changed_cache : Change → ℕ → Cache → Cache
+changed_cache ch c k = record { lines = map_at (λ s l. changed ch (pos c s) l) k.lines }
 
 -- the lines that it can reach: one that it can't stays (law `unreached_stays`)
 abbrev pub reached : Change → Line → Bool

@@ -6,7 +6,6 @@ ghost use Rattle.rules.specs.Abort.{settle, settled, abort_line};
 ghost use Rattle.rules.specs.Reset.{reset_line};
 ghost use Rattle.moves.specs.Change.{changed, reached, is_stay};
 
-use lines::{can_own, empty_line, hits, is_ranged, is_share, is_spec, is_top};
 use rules::{Line, Pos, State};
 
 // `x` is an address, `m` a modified VID; `cache` is the asking one.
@@ -28,159 +27,129 @@ pub enum Change {
     Stay,
 }
 
+impl Change {
+    // Does every line stay?
+    pub fn stays(self) -> bool
+        ensures { result ≡ is_stay self }
+    {
+        matches!(self, Change::Stay)
+    }
+
+    // Can the change reach the line? One that it can't stays as it is.
+    pub(crate) fn reaches(self, line: Line) -> bool
+        ensures { result ≡ reached self line }
+    {
+        match self {
+            Change::DropOf { x }
+            | Change::DropShares { x, .. }
+            | Change::DropStale { x, .. }
+            | Change::Demote { x } => line.address == x,
+            Change::Abort { .. } | Change::Reset => true,
+            Change::Stay => false,
+        }
+    }
+
+    // What becomes of the line, which stands at `place`.
+    #[tactic(auto, unfolding(rules::specs::Load::is_of, rules::specs::Load::is_stale_share))]
+    pub(crate) fn of(self, place: Pos, line: Line) -> Line
+        ensures { result ≡ changed self place line }
+    {
+        match self {
+            Change::DropOf { x } => drop_if(line.address == x, line),
+            Change::DropShares { x, m } => drop_if(line.is_share(x, m), line),
+            Change::DropStale { cache, x, m } => drop_if(
+                place.cache == cache && line.is_share(x, m),
+                line,
+            ),
+            Change::Demote { x } => demote_line(x, line),
+            Change::Abort { lcvid } => abort_line(lcvid, line),
+            Change::Reset => reset_line(line),
+            Change::Stay => line,
+        }
+    }
+}
+
 // An empty slot where the line drops, else the line.
-fn drop_if(gone: bool, l: Line) -> Line
-    ensures { result ≡ cond gone empty l }
+fn drop_if(gone: bool, line: Line) -> Line
+    ensures { result ≡ cond gone empty line }
 {
-    if gone { empty_line() } else { l }
+    if gone { Line::empty() } else { line }
 }
 
 // M becomes O, E becomes S.
-fn demoted_state(s: State) -> State
-    ensures { result ≡ demote s }
+fn demoted_state(state: State) -> State
+    ensures { result ≡ demote state }
 {
-    match s {
-        State::I => State::I,
+    match state {
         State::M => State::O,
-        State::O => State::O,
         State::E => State::S,
-        State::S => State::S,
-        State::SM => State::SM,
-        State::SO => State::SO,
-        State::SE => State::SE,
-        State::SS => State::SS,
+        other => other,
     }
 }
 
 // A line of address x with its state demoted; another line stays.
 #[tactic(auto, unfolding(rules::specs::Load::demote_line))]
-fn demote_line(x: u16, l: Line) -> Line
-    ensures { result ≡ demote_line x l }
+fn demote_line(x: u16, line: Line) -> Line
+    ensures { result ≡ demote_line x line }
 {
-    if l.address == x {
-        let s = l.state;
-        let after = demoted_state(s);
+    if line.address == x {
         Line {
-            state: after,
-            address: l.address,
-            m: l.m,
-            h: l.h,
-            word: l.word,
+            state: demoted_state(line.state),
+            ..line
         }
     } else {
-        l
+        line
     }
 }
 
 // M from S-M and S-O, E from S-E.
-fn settled_state(s: State) -> State
-    ensures { result ≡ settle s }
+fn settled_state(state: State) -> State
+    ensures { result ≡ settle state }
 {
-    match s {
-        State::I => State::I,
-        State::M => State::M,
-        State::O => State::O,
-        State::E => State::E,
-        State::S => State::S,
-        State::SM => State::M,
-        State::SO => State::M,
+    match state {
+        State::SM | State::SO => State::M,
         State::SE => State::E,
         State::SS => State::I,
+        other => other,
     }
 }
 
 // The line as a plain one, with VIDs 0, 0.
-fn settle_line(l: Line) -> Line
-    ensures { result ≡ settled l }
+fn settle_line(line: Line) -> Line
+    ensures { result ≡ settled line }
 {
-    let s = l.state;
-    let after = settled_state(s);
     Line {
-        state: after,
-        address: l.address,
+        state: settled_state(line.state),
         m: 0,
         h: 0,
-        word: l.word,
+        ..line
     }
 }
 
 // S-S lines drop; other speculative lines that LCVID hits settle, the rest drop; plain lines stay.
 #[tactic(auto, unfolding(rules::specs::Abort::abort_line))]
-fn abort_line(lcvid: u16, l: Line) -> Line
-    ensures { result ≡ abort_line lcvid l }
+fn abort_line(lcvid: u16, line: Line) -> Line
+    ensures { result ≡ abort_line lcvid line }
 {
-    let s = l.state;
-    if is_spec(s) {
-        let owns = can_own(s);
-        let hit = hits(lcvid, l);
-        if owns & hit {
-            return settle_line(l);
-        }
-        return empty_line();
+    if !line.state.is_spec() {
+        line
+    } else if line.state.can_own() && line.hits(lcvid) {
+        settle_line(line)
+    } else {
+        Line::empty()
     }
-    l
 }
 
 // S-O and S-S drop; S-M and S-E settle; plain lines stay.
 #[tactic(auto, unfolding(rules::specs::Reset::reset_line))]
-fn reset_line(l: Line) -> Line
-    ensures { result ≡ reset_line l }
+fn reset_line(line: Line) -> Line
+    ensures { result ≡ reset_line line }
 {
-    let s = l.state;
-    if is_ranged(s) {
-        return empty_line();
-    }
-    if is_top(s) {
-        return settle_line(l);
-    }
-    l
-}
-
-// Does every line stay?
-pub fn stays(ch: Change) -> bool
-    ensures { result ≡ is_stay ch }
-{
-    match ch {
-        Change::DropOf { x } => false,
-        Change::DropShares { x, m } => false,
-        Change::DropStale { cache, x, m } => false,
-        Change::Demote { x } => false,
-        Change::Abort { lcvid } => false,
-        Change::Reset => false,
-        Change::Stay => true,
-    }
-}
-
-// Can the change reach the line? One that it can't stays as it is.
-pub fn reaches(ch: Change, l: Line) -> bool
-    ensures { result ≡ reached ch l }
-{
-    match ch {
-        Change::DropOf { x } => l.address == x,
-        Change::DropShares { x, m } => l.address == x,
-        Change::DropStale { cache, x, m } => l.address == x,
-        Change::Demote { x } => l.address == x,
-        Change::Abort { lcvid } => true,
-        Change::Reset => true,
-        Change::Stay => false,
-    }
-}
-
-// What becomes of the line `l`, which stands at `p`.
-#[tactic(auto, unfolding(rules::specs::Load::is_of, rules::specs::Load::is_stale_share))]
-pub fn changed_line(ch: Change, p: Pos, l: Line) -> Line
-    ensures { result ≡ changed ch p l }
-{
-    match ch {
-        Change::DropOf { x } => drop_if(l.address == x, l),
-        Change::DropShares { x, m } => drop_if(is_share(x, m, l), l),
-        Change::DropStale { cache, x, m } => {
-            let share = is_share(x, m, l);
-            drop_if((p.cache == cache) & share, l)
-        },
-        Change::Demote { x } => demote_line(x, l),
-        Change::Abort { lcvid } => abort_line(lcvid, l),
-        Change::Reset => reset_line(l),
-        Change::Stay => l,
+    if line.state.is_ranged() {
+        Line::empty()
+    } else if line.state.is_top() {
+        settle_line(line)
+    } else {
+        line
     }
 }

@@ -1,7 +1,7 @@
 -- A report that grows by a line a turn in a lent buffer.
 -- Assumes nothing.
 use mathlib.Core.Path.{◌≡◌, refl, sym, ◌∙◌, ap}
-use mathlib.Core.Bool.{Bool, true, false, cond}
+use mathlib.Core.Bool.{Bool, true, false}
 use mathlib.Core.List.{List, [], ◌∷◌, ◌++◌, append_assoc, append-nil}
 use Prim.Native.Nat.{ℕ, ◌+◌, ◌-◌, ◌≤◌, ◌<◌}
 use native.Mathlib.Omega.{arith}
@@ -9,40 +9,13 @@ use borrow.Author.Tests.{le-leb, lt-leb, leb-true, leb-false}
 use lib.Dec.{leb}
 use lib.ListN.{length, take, drop, length-append, length-drop}
 use lib.Seq.{take_at, drop_at, drop-drop}
+use Rattle.std.specs.Prelude.{Ok, Err}
 use Rattle.rules.specs.declared.Reason.{Reason}
-use Rattle.rules.specs.declared.Reason.TheVariants.{NoFit}
 use Rattle.rules.proofs.base.Bools.{by_test}
-use Rattle.report.specs.declared.Wrote.{Wrote}
-use Rattle.report.specs.declared.Wrote.TheVariants.{Next, Not}
 use Rattle.report.specs.Report.{fits, laid, Writes}
+use Rattle.report.proofs.Written.{not_written, written}
 use Rattle.play.specs.declared.Played.{Played}
 use Rattle.play.specs.Buffer.{joined, fitting, Plays, Ends}
-
--- ---- what the line writer's answer tells
-
-abbrev wrote : Bool → ℕ → Wrote
-wrote b n = cond b (Next n) (Not NoFit)
-
-refused : (b : Bool) (n : ℕ) (r : Reason) → wrote b n ≡ Not r → b ≡ false
-refused true n r e = absurd (let z : ◌≡◌ {A = ℕ} 0 1 = cc in omega arith)
-refused false n r e = refl
-
-next : (b : Bool) (m n : ℕ) → wrote b m ≡ Next n → (b ≡ true) × (n ≡ m)
-next true m n e = (refl, cc)
-next false m n e = absurd (let z : ◌≡◌ {A = ℕ} 0 1 = cc in omega arith)
-
-module _ {line : List ℕ} {place : ℕ} {before after : List ℕ} where
-  -- the line doesn't fit, and the buffer is as it was
-  pub not_written : {r : Reason} → Writes line place before (Not r) after → (fits line place before ≡ false) × (after ≡ before)
-  not_written {r} l =
-      let f = refused _ _ r (sym l.answer) in
-      (f, l.holds ∙ rw f)
-
-  -- the line fits, and is laid
-  pub written : {last : ℕ} → Writes line place before (Next last) after → (fits line place before ≡ true) × ((last ≡ place + length line) × (after ≡ laid line place before))
-  written {last} l =
-      let f = next _ _ last (sym l.answer) in
-      (f.0, (f.1, l.holds ∙ rw f.0))
 
 -- ---- the report so far
 
@@ -65,9 +38,6 @@ plays_as : {lines : List (List ℕ)} {before out after : List ℕ} {p r : Played
 plays_as h e w a = record { place = e ∙ h.place; whole = w ∙ h.whole; holds = a ∙ rw e h.holds; within = rw (a, e) h.within }
 
 module _ {lines : List (List ℕ)} {before : List ℕ} {end : ℕ} {out : List ℕ} {rest : List (List ℕ)} (t : Telling lines before end out rest) where
-  pub telling_as : {rest' : List (List ℕ)} → rest ≡ rest' → Telling lines before end out rest'
-  telling_as e = rw (← e) t
-
   pub telling_length : length out ≡ length before
   telling_length = ap length t.holds ∙ (length-append t.done (drop end before) ∙ omega (arith, t.place, t.room, length-drop end before))
 
@@ -130,13 +100,13 @@ module _ {lines : List (List ℕ)} {before : List ℕ} {end : ℕ} {out : List �
 module _ {lines : List (List ℕ)} {before : List ℕ} {end : ℕ} {out : List ℕ} {rest : List (List ℕ)} (t : Telling lines before end out rest) where
   module _ {line : List ℕ} {more : List (List ℕ)} (e : rest ≡ line ∷ more) {after : List ℕ} where
     -- the next line was refused with 13: the report ends
-    pub telling_refused : {r : Reason} → Writes line end out (Not r) after → Plays lines before (record { end = end; whole = false }) after
+    pub telling_refused : {r : Reason} → Writes line end out (Err r) after → Plays lines before (record { end = end; whole = false }) after
     telling_refused l =
         let n = not_written l in
-        rw n.1 (telling_full t line more e n.0)
+        rw n.1.1 (telling_full t line more e n.0)
 
     -- the next line was written
-    pub telling_wrote : {last : ℕ} → Writes line end out (Next last) after → Telling lines before last after more
+    pub telling_wrote : {last : ℕ} → Writes line end out (Ok last) after → Telling lines before last after more
     telling_wrote l =
         let n = written l in
         rw (n.1.0, n.1.1) (telling_more t line more e n.0)
@@ -150,18 +120,3 @@ module _ {lines : List (List ℕ)} {before : List ℕ} {end : ℕ} {out : List �
 -- a report of one line
 pub one_line : {line before : List ℕ} {r : Played} {after : List ℕ} → Ends line 0 before r after → Plays (line ∷ []) before r after
 one_line {line} {before} l = telling_last (telling_none (line ∷ []) before) refl l
-
--- ---- lengths
-
-fitting_fits : (lines : List (List ℕ)) (room : ℕ) → length (joined (fitting room lines)) ≤ room
-unfolding fitting joined
-fitting_fits [] room = omega arith
-fitting_fits (l ∷ ls) room = by_test (leb (length l) room)
-    (λ i. rw i (omega (arith, leb-true (length l) room i, fitting_fits ls (room - length l), length-append l (joined (fitting (room - length l) ls)))))
-    (λ i. rw i (omega arith))
-
-pub plays_length : {lines : List (List ℕ)} {before : List ℕ} {r : Played} {after : List ℕ} → Plays lines before r after → length after ≡ length before
-plays_length {lines} {before} {r} p =
-    ap length p.holds
-    ∙ (length-append (joined (fitting (length before) lines)) (drop r.end before)
-    ∙ omega (arith, p.place, length-drop r.end before, fitting_fits lines (length before)))

@@ -1,3 +1,2 @@
 -- The report's text, and what writing a line does to a buffer.
-pub mod Pieces
 pub mod Report

@@ -1,47 +1,32 @@
 -- A line of the report, and what writing it does to the caller's buffer.
 -- Assumes nothing.
-use Rattle.std.specs.Prelude.{◌≡◌, Bool, cond, List, [], ◌∷◌, ◌++◌, ℕ, ◌+◌, leb, length, take, drop}
+use Rattle.std.specs.Prelude.{◌≡◌, Bool, cond, List, [], ◌∷◌, ◌++◌, ℕ, ◌+◌, leb, length, take, drop, codes, Result, Ok, Err}
 use Rattle.rules.specs.declared.Answer.{Answer}
-use Rattle.rules.specs.declared.Answer.TheVariants.{Value, Done, Misspec, Overflow, Refused}
+use Rattle.rules.specs.declared.Answer.TheVariants.{Refused}
 use Rattle.rules.specs.declared.Fault.{Fault}
 use Rattle.rules.specs.declared.Reason.{Reason}
-use Rattle.rules.specs.declared.Reason.TheVariants.{CacheCount, NotSound, NoSuchCache, AddressTooLarge, SlotTooLarge, VidTooLarge, VidPast, VidNotNext, NotSettled, SlotEmpty, NoRoom, Unreadable, NoFit, TextTooLong}
+use Rattle.rules.specs.declared.Reason.TheVariants.{Unreadable, NoFit}
 use Rattle.rules.specs.Answer.{number_of, letter_of, text_of, data_of}
 use Rattle.rules.specs.Text.{lf, data_key, decimal}
-use Rattle.report.specs.declared.Wrote.{Wrote}
-use Rattle.report.specs.declared.Wrote.TheVariants.{Next, Not}
 
 -- ---- the line: "step number from 1, answer, data (the loaded value, else 0), LCVID after the step", "ended by one LF that belongs to the line"
 
--- `step=`, ` answer=`, ` lcvid=`, ` col=`
 abbrev pub step_key : List ℕ
-step_key = 115 ∷ 116 ∷ 101 ∷ 112 ∷ 61 ∷ []
+step_key = codes "step="
 
 abbrev pub answer_key : List ℕ
-answer_key = 32 ∷ 97 ∷ 110 ∷ 115 ∷ 119 ∷ 101 ∷ 114 ∷ 61 ∷ []
+answer_key = codes " answer="
 
 abbrev pub lcvid_key : List ℕ
-lcvid_key = 32 ∷ 108 ∷ 99 ∷ 118 ∷ 105 ∷ 100 ∷ 61 ∷ []
+lcvid_key = codes " lcvid="
 
 abbrev pub col_key : List ℕ
-col_key = 32 ∷ 99 ∷ 111 ∷ 108 ∷ 61 ∷ []
+col_key = codes " col="
 
 -- a text that only an unreadable line has
 abbrev pub if_unreadable : Reason → (Fault → ℕ → List ℕ) → List ℕ
-if_unreadable CacheCount text = []
-if_unreadable NotSound text = []
-if_unreadable NoSuchCache text = []
-if_unreadable AddressTooLarge text = []
-if_unreadable SlotTooLarge text = []
-if_unreadable VidTooLarge text = []
-if_unreadable VidPast text = []
-if_unreadable VidNotNext text = []
-if_unreadable NotSettled text = []
-if_unreadable SlotEmpty text = []
-if_unreadable NoRoom text = []
 if_unreadable (Unreadable f column) text = text f column
-if_unreadable NoFit text = []
-if_unreadable TextTooLong text = []
+if_unreadable r text = []
 
 -- 2026-01: "12 splits into 12a to 12e"
 abbrev pub letter_text : Reason → List ℕ
@@ -53,19 +38,13 @@ column_text r = if_unreadable r (λ f column. col_key ++ decimal column)
 
 -- "value (a load), done (any other step), or instead misspec, overflow, refused-N"
 abbrev pub answer_text : Answer → List ℕ
-answer_text (Value w) = text_of (Value w)
-answer_text Done = text_of Done
-answer_text Misspec = text_of Misspec
-answer_text Overflow = text_of Overflow
 answer_text (Refused r) = (text_of (Refused r) ++ decimal (number_of r)) ++ letter_text r
+answer_text r = text_of r
 
 -- what stands behind the LCVID
 abbrev pub end_text : Answer → List ℕ
-end_text (Value w) = []
-end_text Done = []
-end_text Misspec = []
-end_text Overflow = []
 end_text (Refused r) = column_text r
+end_text r = []
 
 unfoldable pub line_text : ℕ → Answer → ℕ → List ℕ
 line_text step r lc = ((((((((step_key ++ decimal step) ++ answer_key) ++ answer_text r) ++ data_key) ++ decimal (data_of r)) ++ lcvid_key) ++ decimal lc) ++ end_text r) ++ lf
@@ -81,6 +60,6 @@ abbrev pub laid : List ℕ → ℕ → List ℕ → List ℕ
 laid line place buffer = take place buffer ++ (line ++ drop (place + length line) buffer)
 
 -- what the writer answers, and the buffer after it: 13, and then "12 and 13 change no machine and no buffer"
-pub record Writes (line : List ℕ) (place : ℕ) (before : List ℕ) (r : Wrote) (after : List ℕ) : Type 0 where
-  pub answer : r ≡ cond (fits line place before) (Next (place + length line)) (Not NoFit)
+pub record Writes (line : List ℕ) (place : ℕ) (before : List ℕ) (r : Result ℕ Reason) (after : List ℕ) : Type 0 where
+  pub answer : r ≡ cond (fits line place before) (Ok (place + length line)) (Err NoFit)
   pub holds : after ≡ cond (fits line place before) (laid line place before) before

@@ -4,165 +4,96 @@
 // crate assumes nothing.
 #![tactic(auto)]
 
-ghost use Rattle.std.specs.Prelude.{◌≡◌, ◌+◌, ◌≤◌, length};
-ghost use Rattle.rules.specs.Answer.{data_of};
-ghost use Rattle.rules.specs.Text.{last_digits};
-ghost use Rattle.report.specs.Pieces.{Put, Copied};
-ghost use Rattle.report.specs.Report.{letter_text, column_text, answer_text, end_text, line_text, Writes};
+ghost use Rattle.std.specs.Prelude.{◌≡◌, ◌+◌, ◌≤◌, [], ◌++◌};
+ghost use Rattle.arrayvec.specs.ArrayString.{array_string_len};
+ghost use Rattle.rules.specs.Text.{decimal};
+ghost use Rattle.report.specs.Report.{answer_text, end_text, line_text, Writes};
 
+use arrayvec::ArrayString;
+use itoa::Buffer;
 use rules::{Answer, Reason};
 
-// The place after the line, or the refusal.
-#[derive(Clone, Copy)]
-pub enum Wrote {
-    Next(usize),
-    Not(Reason),
+// A number at the line's end, of 20 digits at most.
+#[tactic(auto, using(crate::proofs::Digits::is_decimal, crate::proofs::Digits::decimal_length))]
+fn push_number(line: &mut ArrayString<144>, n: u64)
+    requires { array_string_len line.old + 20 ≤ 144 }
+    ensures text { line.new.bytes ≡ line.old.bytes ++ decimal n }
+    ensures len { array_string_len line.new ≤ array_string_len line.old + 20 }
+{
+    let mut digits = Buffer::new();
+    line.push_str(digits.format(n));
 }
 
-// The last `left` digits of n, from `at` on; the place after them.
-fn put_digits(t: &mut [u8; 144], at: usize, n: u64, left: usize) -> usize
-    requires { at + left ≤ 144 }
-    ensures { Put t.old at (last_digits left n) left result t.new }
+// The answer's word, a refusal's number behind it, and the letter of a 12. A word has 8 bytes at most.
+fn push_answer(line: &mut ArrayString<144>, answer: Answer)
+    requires { array_string_len line.old + 29 ≤ 144 }
+    ensures text { line.new.bytes ≡ line.old.bytes ++ answer_text answer }
+    ensures len { array_string_len line.new ≤ array_string_len line.old + 29 }
 {
-    if left == 0 {
-        return at;
-    }
-    if n < 10 {
-        t[at] = (48 + n) as u8;
-        return at + 1;
-    }
-    let end = put_digits(t, at, n / 10, left - 1);
-    t[end] = (48 + n % 10) as u8;
-    end + 1
-}
-
-// A text, from `at` on; the place after it.
-#[tactic(auto, using(crate::proofs::Sets::sets_turn))]
-fn put_text(t: &mut [u8; 144], at: usize, s: &[u8]) -> usize
-    requires { at + length s.now ≤ 144 }
-    ensures { Put t.old at s.now (length s.now) result t.new }
-{
-    let mut i = 0;
-    while i < s.len() {
-        let p = at + i;
-        t[p] = s[i];
-        i += 1;
-    }
-    at + i
-}
-
-// The letter behind a 12, from `at` on; the place after it.
-fn put_letter(t: &mut [u8; 144], at: usize, reason: Reason) -> usize
-    requires { at + 1 ≤ 144 }
-    ensures { Put t.old at (letter_text reason) 1 result t.new }
-{
-    let Reason::Unreadable(fault, _) = reason else {
-        return at;
-    };
-    t[at] = rules::letter(fault);
-    at + 1
-}
-
-// The column of an unreadable line, from `at` on; the place after it. ` col=` is 5 bytes, a number at most 20.
-fn put_column(t: &mut [u8; 144], at: usize, reason: Reason) -> usize
-    requires { at + 25 ≤ 144 }
-    ensures { Put t.old at (column_text reason) 25 result t.new }
-{
-    let Reason::Unreadable(_, column) = reason else {
-        return at;
-    };
-    let a = put_text(t, at, b" col=");
-    put_digits(t, a, column as u64, 20)
-}
-
-// The answer's text, a refusal's number and letter behind it, from `at` on; the place after it. `refused-` is 8 bytes, a number at most 20.
-fn put_answer(t: &mut [u8; 144], at: usize, answer: Answer) -> usize
-    requires { at + 29 ≤ 144 }
-    ensures { Put t.old at (answer_text answer) 29 result t.new }
-{
-    match answer {
-        Answer::Value(_) => put_text(t, at, b"value"),
-        Answer::Done => put_text(t, at, b"done"),
-        Answer::Misspec => put_text(t, at, b"misspec"),
-        Answer::Overflow => put_text(t, at, b"overflow"),
-        Answer::Refused(reason) => {
-            let a = put_text(t, at, b"refused-");
-            let n = rules::number(reason);
-            let b = put_digits(t, a, n, 20);
-            put_letter(t, b, reason)
+    line.push_str(answer.word());
+    if let Answer::Refused(reason) = answer {
+        push_number(line, reason.number());
+        if let Reason::Unreadable(fault, _) = reason {
+            line.push(char::from(fault.letter()));
         }
     }
 }
 
-// What stands behind the LCVID, from `at` on; the place after it.
-fn put_end(t: &mut [u8; 144], at: usize, answer: Answer) -> usize
-    requires { at + 25 ≤ 144 }
-    ensures { Put t.old at (end_text answer) 25 result t.new }
+// What stands behind the LCVID: the column of an unreadable line. ` col=` is 5 bytes.
+fn push_end(line: &mut ArrayString<144>, answer: Answer)
+    requires { array_string_len line.old + 25 ≤ 144 }
+    ensures text { line.new.bytes ≡ line.old.bytes ++ end_text answer }
+    ensures len { array_string_len line.new ≤ array_string_len line.old + 25 }
 {
-    if let Answer::Refused(reason) = answer {
-        return put_column(t, at, reason);
-    }
-    at
-}
-
-// The loaded value, else 0.
-fn data_of(answer: Answer) -> u64
-    ensures { result ≡ data_of answer }
-{
-    match answer {
-        Answer::Value(w) => w,
-        Answer::Done => 0,
-        Answer::Misspec => 0,
-        Answer::Overflow => 0,
-        Answer::Refused(_) => 0,
+    if let Answer::Refused(Reason::Unreadable(_, column)) = answer {
+        line.push_str(" col=");
+        push_number(line, u64::from(column));
     }
 }
 
-// The whole line, from the array's start on; its length.
-fn make_line(t: &mut [u8; 144], step: u64, answer: Answer, lcvid: u64) -> usize
-    ensures { Put t.old 0 (line_text step answer lcvid) 144 result t.new }
+// The whole line, of 141 bytes at most. It is made where it stands: handed back, it would be copied twice.
+fn make_line(line: &mut ArrayString<144>, step: u64, answer: Answer, lcvid: u64)
+    requires { line.old.bytes ≡ [] }
+    ensures { line.new.bytes ≡ line_text step answer lcvid }
 {
-    let a = put_text(t, 0, b"step=");
-    let b = put_digits(t, a, step, 20);
-    let c = put_text(t, b, b" answer=");
-    let d = put_answer(t, c, answer);
-    let e = put_text(t, d, b" data=");
-    let w = data_of(answer);
-    let f = put_digits(t, e, w, 20);
-    let g = put_text(t, f, b" lcvid=");
-    let h = put_digits(t, g, lcvid, 20);
-    let k = put_end(t, h, answer);
-    put_text(t, k, b"\n")
+    line.push_str("step=");
+    push_number(line, step);
+    line.push_str(" answer=");
+    push_answer(line, answer);
+    line.push_str(" data=");
+    push_number(line, answer.data());
+    line.push_str(" lcvid=");
+    push_number(line, lcvid);
+    push_end(line, answer);
+    line.push_str("\n");
 }
 
-// The first n bytes of t into the buffer that is lent from the place on, and true; or false and no change where they do not fit.
-#[tactic(auto, using(crate::proofs::Sets::sets_turn))]
-fn copy_line(out: &mut [u8], t: &[u8], n: usize) -> bool
-    requires { n ≤ length t.now }
-    ensures { Copied n t.now out.old result out.new }
+// The line at the start of the part of a buffer that is lent, and the place after it; or 13 and no change where it doesn't fit.
+fn copy_line(part: &mut [u8], line: &[u8]) -> Result<usize, Reason>
+    ensures { Writes line.now 0 part.old result part.new }
 {
-    if out.len() < n {
-        return false;
+    if part.len() < line.len() {
+        return Err(Reason::NoFit);
     }
-    let mut i = 0;
-    while i < n {
-        out[i] = t[i];
-        i += 1;
-    }
-    true
+    part[..line.len()].copy_from_slice(line);
+    Ok(line.len())
 }
 
 // The line of a step: its number, its answer, the data and the LCVID after it, from `place` on.
-pub fn write_line(out: &mut [u8], place: usize, step: u64, answer: Answer, lcvid: u64) -> Wrote
+pub fn write_line(
+    out: &mut [u8],
+    place: usize,
+    step: u64,
+    answer: Answer,
+    lcvid: u64,
+) -> Result<usize, Reason>
     ensures { Writes (line_text step answer lcvid) place out.old result out.new }
 {
     if out.len() < place {
-        return Wrote::Not(Reason::NoFit);
+        return Err(Reason::NoFit);
     }
-    let mut t = [0u8; 144];
-    let n = make_line(&mut t, step, answer, lcvid);
-    if copy_line(&mut out[place..], &t, n) {
-        return Wrote::Next(place + n);
-    }
-    Wrote::Not(Reason::NoFit)
+    let mut line = ArrayString::new();
+    make_line(&mut line, step, answer, lcvid);
+    let length = copy_line(&mut out[place..], line.as_str().as_bytes())?;
+    Ok(place + length)
 }

@@ -4,18 +4,29 @@
 // The crate assumes nothing.
 #![tactic(auto)]
 
-ghost use Rattle.std.specs.Prelude.{◌≡◌, suc, eqb};
+ghost use Rattle.std.specs.Prelude.{◌≡◌, ◌&&◌, suc, eqb, ltb};
+ghost use Rattle.std.specs.List.{list_any};
 ghost use Rattle.rules.specs.declared.Op.TheVariants.{Commit, Abort, Reset, Evict};
 ghost use Rattle.rules.specs.declared.Answer.TheVariants.{Done};
-ghost use Rattle.rules.specs.Line.{empty};
-ghost use Rattle.rules.specs.Machine.{pos, at, put, write, gives};
+ghost use Rattle.rules.specs.States.{top};
+ghost use Rattle.rules.specs.Machine.{write, gives};
 ghost use Rattle.rules.specs.Abort.{abort_of};
 ghost use Rattle.rules.specs.Reset.{reset_of, unsettled};
-ghost use Rattle.rules.specs.Evict.{spare, with_shares, settled_out, evict_of};
+ghost use Rattle.rules.specs.Evict.{spare, evict_of};
 ghost use Rattle.rules.specs.Step.{rule_of};
 
-use moves::{Change, refused};
-use rules::{Answer, Answered, Line, Machine, Reason, State};
+use moves::{Change, change, change_all, line_at, put_in, refused};
+use rules::{Answer, Answered, Cache, Line, Machine, Pos, Reason, State};
+
+// A step that is done, with the machine after it.
+fn done(machine: Machine) -> Answered
+    ensures { result ≡ gives Done machine }
+{
+    Answered {
+        answer: Answer::Done,
+        machine,
+    }
+}
 
 // ---- commit
 
@@ -23,10 +34,7 @@ use rules::{Answer, Answered, Line, Machine, Reason, State};
 fn is_next(lcvid: u16, vid: u16) -> bool
     ensures { result ≡ eqb vid (suc lcvid) }
 {
-    if vid == 0 {
-        return false;
-    }
-    vid - 1 == lcvid
+    vid.checked_sub(1) == Some(lcvid)
 }
 
 // LCVID becomes the VID. Nothing else changes.
@@ -37,16 +45,14 @@ pub fn commit(machine: Machine, vid: u64) -> Answered
     if 64 <= vid {
         return refused(machine, Reason::VidTooLarge);
     }
-    let v = vid as u16;
-    if !is_next(machine.lcvid, v) {
+    let vid = vid as u16;
+    if !is_next(machine.lcvid, vid) {
         return refused(machine, Reason::VidNotNext);
     }
-    let mut next = machine;
-    next.lcvid = v;
-    Answered {
-        answer: Answer::Done,
-        machine: next,
-    }
+    done(Machine {
+        lcvid: vid,
+        ..machine
+    })
 }
 
 // ---- abort
@@ -57,17 +63,14 @@ fn aborted(machine: Machine) -> Machine
     ensures { result ≡ abort_of machine }
 {
     let lcvid = machine.lcvid;
-    moves::change(machine, Change::Abort { lcvid })
+    change(machine, Change::Abort { lcvid })
 }
 
 #[tactic(auto, unfolding(rules::specs::Step::rule_of))]
 pub fn abort(machine: Machine) -> Answered
     ensures { result ≡ rule_of machine Abort }
 {
-    Answered {
-        answer: Answer::Done,
-        machine: aborted(machine),
-    }
+    done(aborted(machine))
 }
 
 // ---- reset
@@ -77,28 +80,28 @@ pub fn abort(machine: Machine) -> Answered
 fn new_flight(machine: Machine) -> Machine
     ensures { result ≡ reset_of machine }
 {
-    let mut next = moves::change(machine, Change::Reset);
-    next.lcvid = 0;
-    next
+    let next = change(machine, Change::Reset);
+    Machine { lcvid: 0, ..next }
 }
 
-// Some S-M or S-E has h above LCVID.
-fn any_unsettled(machine: Machine) -> bool
-    ensures { result ≡ unsettled machine }
+// Some S-M or S-E of a cache has h above LCVID.
+fn any_unsettled_in(cache: &Cache, lcvid: u16) -> bool
+    ensures { result ≡ list_any (λ l. top l.state && ltb lcvid l.h) cache.now.lines }
 {
-    let lcvid = machine.lcvid;
-    for c in 0..4 {
-        let k = machine.caches[c];
-        for s in 0..16 {
-            let l = k.lines[s];
-            let state = l.state;
-            let top = lines::is_top(state);
-            if top & (lcvid < l.h) {
-                return true;
-            }
-        }
-    }
-    false
+    cache
+        .lines
+        .iter()
+        .any(|line| line.state.is_top() && lcvid < line.h)
+}
+
+// The same of all caches.
+fn any_unsettled(machine: &Machine) -> bool
+    ensures { result ≡ unsettled machine.now }
+{
+    machine
+        .caches
+        .iter()
+        .any(|cache| any_unsettled_in(cache, machine.lcvid))
 }
 
 // Refused where a line is not settled.
@@ -106,114 +109,61 @@ fn any_unsettled(machine: Machine) -> bool
 pub fn reset(machine: Machine) -> Answered
     ensures { result ≡ rule_of machine Reset }
 {
-    if any_unsettled(machine) {
+    if any_unsettled(&machine) {
         return refused(machine, Reason::NotSettled);
     }
-    Answered {
-        answer: Answer::Done,
-        machine: new_flight(machine),
-    }
+    done(new_flight(machine))
 }
 
 // ---- evict
 
 // E, S, S-S: its word is held elsewhere too.
-fn is_spare(s: State) -> bool
-    ensures { result ≡ spare s }
+fn is_spare(state: State) -> bool
+    ensures { result ≡ spare state }
 {
-    match s {
-        State::I => false,
-        State::M => false,
-        State::O => false,
-        State::E => true,
-        State::S => true,
-        State::SM => false,
-        State::SO => false,
-        State::SE => false,
-        State::SS => true,
-    }
-}
-
-// The slot is I, and zero in all other fields.
-fn emptied(machine: Machine, cache: usize, slot: usize) -> Machine
-    ensures { result ≡ put (pos cache slot) empty machine }
-{
-    let line = lines::empty_line();
-    moves::put(machine, cache, slot, line)
+    matches!(state, State::E | State::S | State::SS)
 }
 
 // A line's word to memory. On a machine that is not sound its address may be past the end: nothing is written then.
 #[tactic(auto, unfolding(rules::specs::Machine::write))]
-fn written_back(machine: Machine, line: Line) -> Machine
-    ensures { result ≡ write line.address line.word machine }
+fn write_back(machine: &mut Machine, line: Line)
+    ensures { machine.new ≡ write line.address line.word machine.old }
 {
-    let mut next = machine;
-    if line.address < 64 {
-        let i = line.address as usize;
-        next.memory[i] = line.word;
-    }
-    next
-}
-
-// S-S lines with the line's m and address drop, and its slot is emptied.
-#[tactic(auto, unfolding(rules::specs::Evict::with_shares, rules::specs::Machine::drop))]
-fn with_shares(machine: Machine, cache: usize, slot: usize, line: Line) -> Machine
-    requires { line ≡ at machine (pos cache slot) }
-    ensures { result ≡ with_shares machine (pos cache slot) }
-{
-    let x = line.address;
-    let m = line.m;
-    let dropped = moves::change(machine, Change::DropShares { x, m });
-    emptied(dropped, cache, slot)
-}
-
-// A settled S-M or S-E goes with its S-S lines. S-M writes its word to memory, S-E has none to write.
-#[tactic(auto, unfolding(rules::specs::Evict::settled_out))]
-fn settled_out(machine: Machine, cache: usize, slot: usize, line: Line) -> Machine
-    requires { line ≡ at machine (pos cache slot) }
-    ensures { result ≡ settled_out machine (pos cache slot) }
-{
-    let after = with_shares(machine, cache, slot, line);
-    let state = line.state;
-    if lines::is_sm(state) {
-        return written_back(after, line);
-    }
-    after
-}
-
-// An eviction that is no overflow.
-fn done(machine: Machine) -> Answered
-    ensures { result ≡ gives Done machine }
-{
-    Answered {
-        answer: Answer::Done,
-        machine,
+    let memory = machine.memory.as_mut_slice();
+    let at = usize::from(line.address);
+    if at < memory.len() {
+        memory[at] = line.word;
     }
 }
 
 // What an eviction does, by the line in the slot.
-#[tactic(auto, unfolding(rules::specs::Evict::evict_of))]
-fn evict_line(machine: Machine, cache: usize, slot: usize, line: Line) -> Answered
-    requires { line ≡ at machine (pos cache slot) }
-    ensures { result ≡ evict_of machine (pos cache slot) }
+#[tactic(auto, unfolding(rules::specs::Evict::evict_of, rules::specs::Evict::settled_out, rules::specs::Evict::with_shares, rules::specs::Machine::drop))]
+fn evicted(machine: Machine, place: Pos) -> Answered
+    ensures { result ≡ evict_of machine place }
 {
-    let state = line.state;
+    let line = line_at(machine, place);
     let lcvid = machine.lcvid;
+    let mut next = machine;
     // Dead, E, S, S-S: emptied.
-    let dead = lines::is_dead(lcvid, line);
-    let spare = is_spare(state);
-    if dead | spare {
-        return done(emptied(machine, cache, slot));
+    if line.is_dead(lcvid) || is_spare(line.state) {
+        put_in(&mut next, place, Line::empty());
+        return done(next);
     }
     // M, O: word to memory, emptied.
-    if lines::is_dirty(state) {
-        let after = emptied(machine, cache, slot);
-        return done(written_back(after, line));
+    if line.state.is_dirty() {
+        put_in(&mut next, place, Line::empty());
+        write_back(&mut next, line);
+        return done(next);
     }
-    // S-M or S-E with h up to LCVID: S-M writes its word to memory; S-S lines with that m and address drop; emptied.
-    let top = lines::is_top(state);
-    if top & (line.h <= lcvid) {
-        return done(settled_out(machine, cache, slot, line));
+    // S-M or S-E with h up to LCVID: S-S lines with that m and address drop; emptied; S-M writes its word to memory, S-E has none to write.
+    if line.state.is_top() && line.h <= lcvid {
+        let Line { address: x, m, .. } = line;
+        change_all(&mut next, Change::DropShares { x, m });
+        put_in(&mut next, place, Line::empty());
+        if line.state == State::SM {
+            write_back(&mut next, line);
+        }
+        return done(next);
     }
     // Any other S-M, S-E or live S-O: overflow, the machine aborts and nothing more is done.
     Answered {
@@ -233,10 +183,9 @@ pub fn evict(machine: Machine, cache: usize, slot: usize) -> Answered
     if 15 < slot {
         return refused(machine, Reason::SlotTooLarge);
     }
-    let line = moves::line_at(machine, cache, slot);
-    let state = line.state;
-    if lines::is_i(state) {
+    let place = Pos { cache, slot };
+    if line_at(machine, place).state == State::I {
         return refused(machine, Reason::SlotEmpty);
     }
-    evict_line(machine, cache, slot, line)
+    evicted(machine, place)
 }

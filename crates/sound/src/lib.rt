@@ -4,104 +4,112 @@
 #![tactic(auto)]
 
 mod fits;
-mod states;
+mod seen;
 mod table;
 
-ghost use Rattle.std.specs.Prelude.{◌≡◌, true, ◌<◌};
+ghost use Rattle.std.specs.Prelude.{◌≡◌, ◌&&◌, ◌<◌, ℕ, false, leb, ltb, MatchOption};
+ghost use Rattle.std.specs.List.{list_all, range_with_len};
 ghost use Rattle.rules.specs.HouseTest.{is_sound};
-ghost use Rattle.sound.specs.Numbered.{all_below, stands_no, Gathers};
+ghost use Rattle.sound.specs.Numbered.{held_no, slot_no, stands_no, Chained};
 
-use fits::{NOTHING, key_of, needs_met, place, see, slot_fits};
-use lines::empty_line;
-use rules::{Line, Machine};
+use fits::slot_fits;
+use rules::{Held, Machine, Pos};
+use seen::Seen;
 
-// The 64 lines in one row, slot s of cache c at 16 c + s, and whether each fits by itself. The live lines of an address are chained: its lowest stands
-// at `first[address]`, and the next one after i at `next[i]`; 64 is none. All other lines are chained from `first[64]`, where nobody looks.
+// The cache count is 1 to 4, and LCVID at most 63.
+fn numbers_fit(machine: &Machine) -> bool
+    ensures { result ≡ (leb 1 machine.now.count && (leb machine.now.count 4 && ltb machine.now.lcvid 64)) }
+{
+    (1..=4).contains(&machine.count) && machine.lcvid < 64
+}
+
+// The line in slot i.
+#[tactic(auto, unfolding(rules::specs::Machine::at))]
+fn held(machine: &Machine, i: usize) -> Held
+    requires { i < 64 }
+    ensures { result ≡ held_no machine.now i }
+{
+    let place = Pos {
+        cache: i / 16,
+        slot: i % 16,
+    };
+    Held {
+        place,
+        line: machine.caches[place.cache].lines[place.slot],
+    }
+}
+
+// The live lines of each address, chained: the lowest of them stands in slot `first[address]`, and the next one after slot i in slot `next[i]`.
+// Slot s of cache c is number 16 c + s.
 #[derive(Clone, Copy)]
-struct Row {
-    fits: bool,
-    lines: [Line; 64],
-    first: [usize; 65],
-    next: [usize; 64],
+struct Chains {
+    first: [Option<u8>; 64],
+    next: [Option<u8>; 64],
 }
 
-// The row of a machine, from its last slot down, so that the chains go up.
-fn gather(machine: Machine) -> Row
-    ensures { Gathers machine 0 result.fits result.lines result.first result.next }
-{
-    let empty = empty_line();
-    let mut fits = true;
-    let mut lines = [empty; 64];
-    let mut first = [64usize; 65];
-    let mut next = [64usize; 64];
-    let lcvid = machine.lcvid;
-    let mut c = 4;
-    while 0 < c {
-        c -= 1;
-        let cache = machine.caches[c];
-        let used = c < machine.count;
-        let mut s = 16;
-        while 0 < s {
-            s -= 1;
-            let l = cache.lines[s];
-            let i = 16 * c + s;
-            let slot = slot_fits(used, l);
-            let key = key_of(lcvid, l);
-            fits = fits & slot;
-            lines[i] = l;
-            next[i] = first[key];
-            first[key] = i;
-        }
-    }
-    Row {
-        fits,
-        lines,
-        first,
-        next,
-    }
-}
-
-// Each live line stands among the lines of its address.
-fn all_stand(machine: Machine, row: Row) -> bool
-    requires { (machine.lcvid < 64) × Gathers machine 0 true row.lines row.first row.next }
-    ensures { result ≡ all_below 64 (stands_no machine) }
-{
-    let lcvid = machine.lcvid;
-    let mut stand = true;
-    let mut i = 0;
-    while i < 64 {
-        let k = row.lines[i];
-        let key = key_of(lcvid, k);
-        if key < 64 {
-            let p = place(i);
-            let mut seen = NOTHING;
-            let mut j = row.first[key];
-            while j < 64 {
-                let l = row.lines[j];
-                let q = place(j);
-                seen = see(lcvid, p, k, q, l, seen);
-                j = row.next[j];
+impl Chains {
+    // Those of a machine where each slot fits by itself. From the last slot down, so that they go up.
+    #[tactic(auto, unfolding(rules::specs::HouseTest::slot_fits))]
+    fn of(machine: &Machine) -> Option<Chains>
+        ensures { MatchOption result ((i : ℕ) × (i < 64) × (slot_no machine.now i ≡ false)) (λ chains. Chained machine.now 0 chains) }
+    {
+        let mut chains = Chains {
+            first: [None; 64],
+            next: [None; 64],
+        };
+        for i in (0..64).rev() {
+            let l = held(machine, i);
+            if !slot_fits(machine, l) {
+                return None;
             }
-            let same = k.word == machine.memory[key];
-            let met = needs_met(k, same, seen);
-            stand = (seen.fits & met) & stand;
+            if l.line.is_live(machine.lcvid) {
+                let x = l.line.address as usize;
+                chains.next[i] = chains.first[x];
+                chains.first[x] = Some(i as u8);
+            }
         }
-        i += 1;
+        Some(chains)
     }
-    stand
+
+    // The line in slot i, if it lives, stands among the lines of its address.
+    #[tactic(auto, using(crate::proofs::Chaining::small))]
+    fn stands(&self, machine: &Machine, i: usize) -> bool
+        requires slot { i < 64 }
+        requires chained { Chained machine.now 0 self.now }
+        ensures { result ≡ stands_no machine.now i }
+    {
+        let k = held(machine, i);
+        if !k.line.is_live(machine.lcvid) {
+            return true;
+        }
+        let x = k.line.address as usize;
+        let mut seen = Seen::NOTHING;
+        let mut at = self.first[x];
+        while let Some(j) = at {
+            seen.see(machine.lcvid, k, held(machine, j as usize));
+            at = self.next[j as usize];
+        }
+        seen.suffices(k.line, machine.memory[x])
+    }
+
+    // Each live line stands among the lines of its address.
+    fn all_stand(&self, machine: &Machine) -> bool
+        requires { Chained machine.now 0 self.now }
+        ensures { result ≡ list_all (stands_no machine.now) (range_with_len 0 64) }
+    {
+        (0..64).all(|i| self.stands(machine, i))
+    }
 }
 
 // The machine keeps the house rules, whatever its numbers are.
 pub fn is_sound(machine: Machine) -> bool
     ensures { result ≡ is_sound machine }
 {
-    let shape = (1 <= machine.count) & ((machine.count <= 4) & (machine.lcvid < 64));
-    if !shape {
+    if !numbers_fit(&machine) {
         return false;
     }
-    let row = gather(machine);
-    if !row.fits {
+    let Some(chains) = Chains::of(&machine) else {
         return false;
-    }
-    all_stand(machine, row)
+    };
+    chains.all_stand(&machine)
 }

@@ -8,8 +8,8 @@ ghost use Rattle.std.specs.Prelude.{◌≡◌};
 ghost use Rattle.rules.specs.Machine.{fresh, make_of};
 ghost use Rattle.rules.specs.Step.{rule_of, step_of};
 
-use lines::empty_line;
-use rules::{Answer, Answered, Cache, Machine, Op, Reason};
+use moves::refused;
+use rules::{Answer, Answered, Cache, Line, Machine, Op, Reason};
 
 // ---- a fresh machine
 
@@ -17,12 +17,10 @@ use rules::{Answer, Answered, Cache, Machine, Op, Reason};
 fn fresh(count: usize, memory: [u64; 64]) -> Machine
     ensures { result ≡ fresh count memory }
 {
-    let line = empty_line();
-    let lines = [line; 16];
-    let cache = Cache { lines };
-    let caches = [cache; 4];
     Machine {
-        caches,
+        caches: [Cache {
+            lines: [Line::empty(); 16],
+        }; 4],
         count,
         lcvid: 0,
         memory,
@@ -34,19 +32,12 @@ fn fresh(count: usize, memory: [u64; 64]) -> Machine
 pub fn make(count: usize, memory: [u64; 64]) -> Answered
     ensures { result ≡ make_of count memory }
 {
-    let fits = (1 <= count) & (count <= 4);
-    if fits {
-        let machine = fresh(count, memory);
-        return Answered {
-            answer: Answer::Done,
-            machine,
-        };
+    if !(1..=4).contains(&count) {
+        return refused(fresh(1, [0; 64]), Reason::CacheCount);
     }
-    let zero = [0u64; 64];
-    let machine = fresh(1, zero);
     Answered {
-        answer: Answer::Refused(Reason::CacheCount),
-        machine,
+        answer: Answer::Done,
+        machine: fresh(count, memory),
     }
 }
 
@@ -77,10 +68,7 @@ pub fn step(machine: Machine, op: Op) -> Answered
     ensures { result ≡ step_of machine op }
 {
     if !sound::is_sound(machine) {
-        return Answered {
-            answer: Answer::Refused(Reason::NotSound),
-            machine,
-        };
+        return refused(machine, Reason::NotSound);
     }
     rule(machine, op)
 }

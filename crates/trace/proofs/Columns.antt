@@ -1,14 +1,14 @@
 -- Request 2026-01: the column and the kind that are told are those of the first byte that can't continue any good line, for every text.
 -- Assumes nothing.
-use mathlib.Core.Path.{◌≡◌, refl, sym, ◌∙◌}
+use Rattle.std.proofs.Common.{Err}
+use mathlib.Core.Path.{◌≡◌, refl, ◌∙◌}
 use mathlib.Core.List.{List, [], ◌∷◌, ◌++◌}
 use Prim.Native.Nat.{ℕ, ◌+◌, ◌<◌}
 use native.Mathlib.Omega.{arith}
 use lib.ListN.{length, drop, get_or}
 use Rattle.rules.specs.declared.Fault.{Fault}
-use Rattle.trace.specs.declared.First.TheVariants.{Broken}
-use Rattle.trace.specs.declared.Read.TheVariants.{Unreadable}
-use Rattle.trace.specs.Trace.{column, first_fields, first_of, read_at}
+use Rattle.trace.specs.declared.Broken.{Broken}
+use Rattle.trace.specs.Trace.{broken_at, first_fields, first_of, read_at}
 use Rattle.trace.specs.Written.{first_text, step_text}
 use Rattle.trace.specs.Columns.{GoodFirst, GoodStep, Breaks}
 use Rattle.trace.proofs.lines.Stands.{stands}
@@ -53,8 +53,8 @@ first_line_good : (line : List ℕ) → GoodFirst line → GoodLine first_fields
 first_line_good line g = record { values = g.caches ∷ []; good = first_good g.caches line g.fits g.written }
 
 -- where the first line is refused, the text breaks at that column, in that kind
-pub first_breaks : (s : List ℕ) (f : Fault) (col : ℕ) → first_of s ≡ Broken f col → Breaks GoodFirst s f col
-first_breaks s f col h = go (first_reading s)
+pub first_breaks : (s : List ℕ) (b : Broken) → first_of s ≡ Err b → Breaks GoodFirst s b.fault b.column
+first_breaks s b h = go (first_reading s)
   where
     none : (line behind : List ℕ) → GoodFirst line → s ≡ line ++ behind → ⊥
     none line behind g e =
@@ -62,31 +62,29 @@ first_breaks s f col h = go (first_reading s)
         let r = first_stands s g.caches (0 + length (first_text g.caches)) g.fits st in
         differ cc
 
-    go : FirstReading s (first_of s) → Breaks GoodFirst s f col
-    go (FirstReading.caches n next small stood is) = differ cc
-    go (FirstReading.broken g place off is) =
-        let e : Broken g (column 0 place) ≡ Broken f col = sym is ∙ h in
-        let a : g ≡ f = cc in
-        let c : column 0 place ≡ col = cc in
-        let l : length off.front + 1 ≡ col = omega (arith, c, off.stood.after) in
+    go : FirstReading s (first_of s) → Breaks GoodFirst s b.fault b.column
+    go (FirstReading.caches c small stood is) = differ cc
+    go (FirstReading.broken w off is) =
+        let same : broken_at 0 w ≡ b = cc in
+        let l : length off.front + 1 ≡ (broken_at 0 w).column = omega (arith, off.stood.after) in
         let x = same_lines (GoodLine first_fields) GoodFirst off.front off.due good_first first_line_good (leads_expects first_fields off.front off.due first_keyed off.leads) in
-        rw (← a, ← l) (breaks GoodFirst s off.front (drop place s) off.due g x off.off off.stood.holds none)
+        rw (← same, ← l) (breaks GoodFirst s off.front (drop w.place s) off.due w.fault x off.off off.stood.holds none)
 
 -- and where it breaks so, the first line is refused so
-pub first_broken : (s : List ℕ) (f : Fault) (col : ℕ) → Breaks GoodFirst s f col → first_of s ≡ Broken f col
-first_broken s f col b = go (first_reading s)
+pub first_broken : (s : List ℕ) (b : Broken) → Breaks GoodFirst s b.fault b.column → first_of s ≡ Err b
+first_broken s b breaks = go (first_reading s)
   where
-    go : FirstReading s (first_of s) → first_of s ≡ Broken f col
-    go (FirstReading.caches n next small stood is) = absurd (b.none (first_text n) (drop next s) (record { caches = n; fits = small; written = refl }) stood.holds)
-    go (FirstReading.broken g place off is) =
-        let o = one_break GoodFirst s g f (column 0 place) col (first_breaks s g (column 0 place) is) b in
+    go : FirstReading s (first_of s) → first_of s ≡ Err b
+    go (FirstReading.caches c small stood is) = absurd (breaks.none (first_text c.count) (drop c.next s) (record { caches = c.count; fits = small; written = refl }) stood.holds)
+    go (FirstReading.broken w off is) =
+        let o = one_break GoodFirst s w.fault b.fault (broken_at 0 w).column b.column (first_breaks s (broken_at 0 w) is) breaks in
         is ∙ rw (o.0, o.1)
 
 -- ---- a step's line
 
 -- where a line is unreadable, the text from there on breaks at that column, in that kind
-pub step_breaks : (s : List ℕ) (at : ℕ) (f : Fault) (col : ℕ) → read_at s at ≡ Unreadable f col → Breaks GoodStep (drop at s) f col
-step_breaks s at f col h = go (step_reading s at)
+pub step_breaks : (s : List ℕ) (at : ℕ) (b : Broken) → read_at s at ≡ Err b → Breaks GoodStep (drop at s) b.fault b.column
+step_breaks s at b h = go (step_reading s at)
   where
     none : (line behind : List ℕ) → GoodStep line → drop at s ≡ line ++ behind → ⊥
     none line behind g e =
@@ -94,24 +92,22 @@ step_breaks s at f col h = go (step_reading s at)
         let r = step_stands s g.op at (at + length (step_text g.op)) g.fits st in
         differ cc
 
-    go : StepReading s at (read_at s at) → Breaks GoodStep (drop at s) f col
+    go : StepReading s at (read_at s at) → Breaks GoodStep (drop at s) b.fault b.column
     go (StepReading.ended past is) = differ cc
-    go (StepReading.step op next fits stood is) = differ cc
-    go (StepReading.broken g place inside off is) =
-        let e : Unreadable g (column at place) ≡ Unreadable f col = sym is ∙ h in
-        let a : g ≡ f = cc in
-        let c : column at place ≡ col = cc in
-        let l : length off.front + 1 ≡ col = omega (arith, c, off.stood.after) in
-        let d = step_due s at place off.front off.due g off.leads off.off off.stood in
-        rw (← a, ← l) (breaks GoodStep (drop at s) off.front (drop place s) d.due g d.expects d.off off.stood.holds none)
+    go (StepReading.step t fits stood is) = differ cc
+    go (StepReading.broken w inside off is) =
+        let same : broken_at at w ≡ b = cc in
+        let l : length off.front + 1 ≡ (broken_at at w).column = omega (arith, off.stood.after) in
+        let d = step_due s at w.place off.front off.due w.fault off.leads off.off off.stood in
+        rw (← same, ← l) (breaks GoodStep (drop at s) off.front (drop w.place s) d.due w.fault d.expects d.off off.stood.holds none)
 
 -- and where it breaks so, the line is unreadable so
-pub step_unreadable : (s : List ℕ) (at : ℕ) (f : Fault) (col : ℕ) → at < length s → Breaks GoodStep (drop at s) f col → read_at s at ≡ Unreadable f col
-step_unreadable s at f col inside b = go (step_reading s at)
+pub step_unreadable : (s : List ℕ) (at : ℕ) (b : Broken) → at < length s → Breaks GoodStep (drop at s) b.fault b.column → read_at s at ≡ Err b
+step_unreadable s at b inside breaks = go (step_reading s at)
   where
-    go : StepReading s at (read_at s at) → read_at s at ≡ Unreadable f col
+    go : StepReading s at (read_at s at) → read_at s at ≡ Err b
     go (StepReading.ended past is) = absurd (omega arith)
-    go (StepReading.step op next fits stood is) = absurd (b.none (step_text op) (drop next s) (record { op = op; fits = fits; written = refl }) stood.holds)
-    go (StepReading.broken g place within off is) =
-        let o = one_break GoodStep (drop at s) g f (column at place) col (step_breaks s at g (column at place) is) b in
+    go (StepReading.step t fits stood is) = absurd (breaks.none (step_text t.op) (drop t.next s) (record { op = t.op; fits = fits; written = refl }) stood.holds)
+    go (StepReading.broken w within off is) =
+        let o = one_break GoodStep (drop at s) w.fault b.fault (broken_at at w).column b.column (step_breaks s at (broken_at at w) is) breaks in
         is ∙ rw (o.0, o.1)

@@ -1,5 +1,6 @@
 -- How long a line is that is read, that it lies within the text, and how far on a line that is unreadable can break.
 -- Assumes nothing.
+use Rattle.std.proofs.Common.{Some, Ok, Err, ◌<◌, ◌-◌}
 use mathlib.Core.Path.{◌≡◌, ◌∙◌, ap}
 use mathlib.Core.List.{List, [], ◌∷◌, ◌++◌, append-nil}
 use Prim.Native.Nat.{ℕ, ◌+◌, ◌≤◌}
@@ -9,15 +10,23 @@ use Rattle.rules.specs.declared.Fault.{Fault}
 use Rattle.rules.specs.declared.Op.{Op}
 use Rattle.rules.specs.declared.Op.TheVariants.{Load, Store, Commit, Abort, Reset, Evict}
 use Rattle.rules.specs.Text.{lf, decimal}
-use Rattle.trace.specs.declared.First.TheVariants.{Caches, Broken}
-use Rattle.trace.specs.declared.Read.TheVariants.{Step, Unreadable}
+use Rattle.trace.specs.declared.Broken.{Broken}
+use Rattle.trace.specs.declared.Caches.{Caches}
+use Rattle.trace.specs.declared.Step.{Step}
 use Rattle.trace.specs.declared.Kind.{Kind}
 use Rattle.trace.specs.declared.Kind.TheVariants.{AskLoad, AskStore, AskCommit, AskAbort, AskReset, AskEvict}
-use Rattle.trace.specs.Trace.{op_text, first_of, read_at}
+use borrow.Author.Tests.{lt-leb}
+use Rattle.trace.specs.declared.numbers.Wrong.{Wrong}
+use Rattle.trace.specs.Numbers.{Parsed, ◌>>=◌}
+use Rattle.trace.specs.Trace.{Field, broken_at, op_text, fields_of, line_at, first_at, first_of, kind_at, step_of, line_of, read_at}
+use Rattle.trace.proofs.lines.GoodLines.{Keyed}
+use Rattle.trace.proofs.lines.LineReading.{LineReading, line_reading}
+use Rattle.trace.proofs.lines.WrittenLines.{step_keyed}
 use Rattle.trace.specs.Columns.{GoodFirst, GoodStep, Breaks}
 use Rattle.trace.specs.Written.{first_text, written_line, step_text}
 use Rattle.trace.proofs.lines.Stands.{Stands}
-use Rattle.trace.proofs.lines.Decimal.{one_digit, some_digit, few_digits}
+use Rattle.trace.proofs.lines.Decimal.{differ, one_digit, some_digit, few_digits}
+use Rattle.trace.proofs.lines.Readings.{StepReading, step_reading}
 use Rattle.trace.proofs.ReadsBack.{only_first, only_written, only_after}
 use Rattle.trace.proofs.Columns.{first_breaks, step_breaks}
 
@@ -54,17 +63,17 @@ step_text_long Reset = line_long AskReset 0 0 0 0
 step_text_long (Evict c t) = line_long AskEvict c 0 t 0
 
 -- `caches=`, a digit and LF; and the line lies within the text
-pub first_long : (s : List ℕ) (n next : ℕ) → first_of s ≡ Caches n next → (9 ≤ next) × (next ≤ length s)
-first_long s n next h =
-    let st = (only_first s n next h).1 in
-    let w = stands_within s 0 (first_text n) next (omega arith) st in
-    (omega (arith, st.after, length-append (decimal n) lf, some_digit n), w)
+pub first_long : (s : List ℕ) (c : Caches) → first_of s ≡ Ok c → (9 ≤ c.next) × (c.next ≤ length s)
+first_long s c h =
+    let st = (only_first s c h).1 in
+    let w = stands_within s 0 (first_text c.count) c.next (omega arith) st in
+    (omega (arith, st.after, length-append (decimal c.count) lf, some_digit c.count), w)
 
-pub step_long : (s : List ℕ) (at : ℕ) (op : Op) (next : ℕ) → read_at s at ≡ Step op next → (at + 34 ≤ next) × (next ≤ length s)
-step_long s at op next h =
-    let a = only_after s at op next h in
-    let l = ap length (only_written s at op next h) in
-    omega (arith, a, l, step_text_long op, length-drop at s, length-append (step_text op) (drop next s))
+pub step_long : (s : List ℕ) (at : ℕ) (t : Step) → read_at s at ≡ Ok (Some t) → (at + 34 ≤ t.next) × (t.next ≤ length s)
+step_long s at t h =
+    let a = only_after s at t h in
+    let l = ap length (only_written s at t h) in
+    omega (arith, a, l, step_text_long t.op, length-drop at s, length-append (step_text t.op) (drop t.next s))
 
 -- ---- lines that break
 
@@ -94,8 +103,52 @@ within Good text f col most bound b = go b.starts.0 b.starts.1
     go (c ∷ more) good = omega (arith, bound (b.before ++ (c ∷ more)) good, length-append b.before (c ∷ more), b.counted)
 
 -- the largest columns there are
-pub first_column : (s : List ℕ) (f : Fault) (col : ℕ) → first_of s ≡ Broken f col → col ≤ 28
-first_column s f col h = within GoodFirst s f col 28 (λ line g. rw g.written (omega (arith, length-append (decimal g.caches) lf, short g.caches))) (first_breaks s f col h)
+pub first_column : (s : List ℕ) (b : Broken) → first_of s ≡ Err b → b.column ≤ 28
+first_column s b h = within GoodFirst s b.fault b.column 28 (λ line g. rw g.written (omega (arith, length-append (decimal g.caches) lf, short g.caches))) (first_breaks s b h)
 
-pub step_column : (s : List ℕ) (at : ℕ) (f : Fault) (col : ℕ) → read_at s at ≡ Unreadable f col → col ≤ 111
-step_column s at f col h = within GoodStep (drop at s) f col 111 (λ line g. rw g.written (step_text_short g.op)) (step_breaks s at f col h)
+pub step_column : (s : List ℕ) (at : ℕ) (b : Broken) → read_at s at ≡ Err b → b.column ≤ 111
+step_column s at b h = within GoodStep (drop at s) b.fault b.column 111 (λ line g. rw g.written (step_text_short g.op)) (step_breaks s at b h)
+
+-- behind the text's end no line breaks
+pub broken_inside : (s : List ℕ) (at : ℕ) (b : Broken) → read_at s at ≡ Err b → at < length s
+broken_inside s at b h = go (step_reading s at)
+  where
+    go : StepReading s at (read_at s at) → at < length s
+    go (StepReading.ended past is) = absurd (differ cc)
+    go (StepReading.step t fits stood is) = absurd (differ cc)
+    go (StepReading.broken w inside off is) = inside
+
+-- ---- so the column has room in 32 bits
+
+-- what is wrong behind a step that was well is wrong in the whole
+wrong_first : {A B : Type 0} (r : Parsed A) (then : A → B) (w : Wrong) → (r >>= (λ a. Ok (then a))) ≡ Err w → r ≡ Err w
+wrong_first (Ok a) then w h = absurd (differ cc)
+wrong_first (Err v) then w h = ap (λ r. r) cc
+
+-- no line breaks before it begins
+line_behind : (fs : List Field) (s : List ℕ) (at : ℕ) (w : Wrong) → Keyed fs → line_at fs s at ≡ Err w → at ≤ w.place
+line_behind fs s at w keyed h = go (line_reading fs s at keyed)
+  where
+    go : LineReading fs s at (line_at fs s at) → at ≤ w.place
+    go (LineReading.whole ns line next good stood is) = absurd (differ cc)
+    go (LineReading.none f off is) =
+        let same : record { fault = f; place = at } ≡ w = cc in
+        rw (← same) (omega arith)
+    go (LineReading.broken p q f place some leads off stood is) =
+        let same : record { fault = f; place = place } ≡ w = cc in
+        rw (← same) (omega (arith, stood.after))
+
+pub first_near : (s : List ℕ) (w : Wrong) → first_at s ≡ Err w → w.place < 28
+unfolding first_of
+first_near s w h = let c = first_column s (broken_at 0 w) (rw h) in omega arith
+
+module _ (s : List ℕ) (at : ℕ) (w : Wrong) (h : line_of (kind_at s at) s at ≡ Err w) where
+  pub step_behind : at ≤ w.place
+  unfolding line_of
+  step_behind =
+      let k = kind_at s at in
+      line_behind (fields_of k) s at w (step_keyed k) (wrong_first (line_at (fields_of k) s at) (step_of k) w h)
+
+  pub step_near : at < length s → w.place - at < 111
+  unfolding read_at
+  step_near inside = let c = step_column s at (broken_at at w) (rw (lt-leb (length s) at inside, h)) in omega arith

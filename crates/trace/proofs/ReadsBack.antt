@@ -1,22 +1,22 @@
 -- Reading gives back what is written, and nothing else is read as it: a number's decimal text, the first line, and a step's line.
 -- Assumes nothing.
-use mathlib.Core.Path.{◌≡◌, refl, sym, ◌∙◌, ap}
+use Rattle.std.proofs.Common.{Some, Ok}
+use mathlib.Core.Path.{◌≡◌, refl, ◌∙◌, ap}
 use mathlib.Core.Bool.{true, false}
 use mathlib.Core.List.{List, [], ◌∷◌, ◌++◌}
 use Prim.Native.Nat.{ℕ, ◌+◌, ◌<◌}
 use native.Mathlib.Omega.{arith}
 use borrow.Author.Tests.{lt-leb}
 use lib.ListN.{length, drop, length-drop}
-use lib.Seq.{drop-append_seam, drop-drop}
+use lib.Seq.{drop-append_seam}
 use Rattle.rules.specs.declared.Op.{Op}
 use Rattle.rules.specs.Text.{decimal}
-use Rattle.trace.specs.declared.numbers.Parsed.TheVariants.{Number}
-use Rattle.trace.specs.declared.First.TheVariants.{Caches}
-use Rattle.trace.specs.declared.Read.TheVariants.{Step}
+use Rattle.trace.specs.declared.Caches.{Caches}
+use Rattle.trace.specs.declared.Step.{Step}
 use Rattle.trace.specs.declared.Kind.{Kind}
 use Rattle.trace.specs.declared.Kind.TheVariants.{AskLoad, AskStore, AskCommit, AskAbort, AskReset, AskEvict}
-use Rattle.trace.specs.Numbers.{number_at}
-use Rattle.trace.specs.Trace.{cache_key, op_text, fields_of, first_fields, first_of, kind_by, kind_at, read_at}
+use Rattle.trace.specs.Numbers.{found, number_at}
+use Rattle.trace.specs.Trace.{cache_key, op_text, fields_of, first_fields, first_at, first_of, kind_by, kind_at, line_of, read_at}
 use Rattle.trace.specs.Written.{first_text, step_text, Small, Fits, starts_digit}
 use Rattle.trace.proofs.lines.Stands.{Stands, stands}
 use Rattle.trace.proofs.lines.Decimal.{differ, always, written_in}
@@ -27,7 +27,7 @@ use Rattle.trace.proofs.lines.Readings.{FirstReading, first_reading, StepReading
 
 -- the decimal text of a number, with no digit behind it, is read as the number
 pub number_back : (n : ℕ) → Small n → (front rest : List ℕ) → starts_digit rest ≡ false
-    → number_at true (front ++ (decimal n ++ rest)) (length front) ≡ Number n (length front + length (decimal n))
+    → number_at true (front ++ (decimal n ++ rest)) (length front) ≡ found n (length front + length (decimal n))
 unfolding number_at
 number_back n small front rest e = rw (drop-append_seam front (decimal n ++ rest)) (written_in true n (length front) rest (always n small) e)
 
@@ -68,20 +68,20 @@ module _ (s : List ℕ) where
   within : (at next b : ℕ) (text : List ℕ) → Stands s at (b ∷ text) next → at < length s
   within at next b text h = let l = ap length h.holds in omega (arith, l, length-drop at s)
 
-  pub first_stands : (n next : ℕ) → Small n → Stands s 0 (first_text n) next → first_of s ≡ Caches n next
-  unfolding first_of
+  pub first_stands : (n next : ℕ) → Small n → Stands s 0 (first_text n) next → first_of s ≡ Ok (record { count = n; next = next })
+  unfolding first_of first_at
   first_stands n next small h = rw (line_back s first_fields (n ∷ []) (first_text n) 0 next first_keyed (first_good n _ small refl) h)
 
   kind_stands : (k : Kind) (ns line : List ℕ) (at next : ℕ) → Good (fields_of k) ns line → Stands s at line next → kind_at s at ≡ k
   unfolding kind_at
   kind_stands k ns line at next good h =
       let o = op_line k ns line good in
-      let e : drop (at + 3) s ≡ letter k ∷ (o.others ++ drop next s) = sym (drop-drop 3 at s) ∙ ap (drop 3) (rw o.is at h.holds) in
+      let e : drop 3 (drop at s) ≡ letter k ∷ (o.others ++ drop next s) = ap (drop 3) (rw o.is at h.holds) in
       rw e (by_letter k (o.others ++ drop next s))
 
   -- wherever a step's line stands as it is written, it is read as the step
-  pub step_stands : (op : Op) (at next : ℕ) → Fits op → Stands s at (step_text op) next → read_at s at ≡ Step op next
-  unfolding read_at
+  pub step_stands : (op : Op) (at next : ℕ) → Fits op → Stands s at (step_text op) next → read_at s at ≡ Ok (Some (record { op = op; next = next }))
+  unfolding read_at line_of
   step_stands op at next fits h =
       let w = spelt op fits in
       let o = op_line w.kind w.values (step_text op) w.good in
@@ -90,54 +90,50 @@ module _ (s : List ℕ) where
       (rw (line_back s (fields_of w.kind) w.values (step_text op) at next (step_keyed w.kind) w.good h, w.is))
 
 -- the first line as it is written, whatever is behind it
-pub first_back : (n : ℕ) → Small n → (rest : List ℕ) → first_of ((first_text n) ++ rest) ≡ Caches n (length (first_text n))
+pub first_back : (n : ℕ) → Small n → (rest : List ℕ) → first_of ((first_text n) ++ rest) ≡ Ok (record { count = n; next = length (first_text n) })
 first_back n small rest =
     let s = first_text n ++ rest in
     let e : 0 + length (first_text n) ≡ length (first_text n) = omega arith in
     first_stands s n (length (first_text n)) small (rw e at (stands s 0 (first_text n) rest refl))
 
 -- a step's line as it is written, whatever is before it and behind it, is read as the step, and the next place is the one after the line
-pub step_back : (op : Op) → Fits op → (front rest : List ℕ) → read_at (front ++ (step_text op ++ rest)) (length front) ≡ Step op (length front + length (step_text op))
+pub step_back : (op : Op) → Fits op → (front rest : List ℕ) → read_at (front ++ (step_text op ++ rest)) (length front) ≡ Ok (Some (record { op = op; next = length front + length (step_text op) }))
 step_back op fits front rest =
     let s = front ++ (step_text op ++ rest) in
     step_stands s op (length front) (length front + length (step_text op)) fits (stands s (length front) (step_text op) rest (drop-append_seam front (step_text op ++ rest)))
 
 -- ---- and nothing else
 
-module _ (s : List ℕ) (n next : ℕ) (h : first_of s ≡ Caches n next) where
+module _ (s : List ℕ) (c : Caches) (h : first_of s ≡ Ok c) where
   -- the first line is read only where it stands as it is written, and its number fits
-  pub only_first : Small n × Stands s 0 (first_text n) next
+  pub only_first : Small c.count × Stands s 0 (first_text c.count) c.next
   only_first = go (first_reading s)
     where
-      go : FirstReading s (first_of s) → Small n × Stands s 0 (first_text n) next
-      go (FirstReading.caches m next' small stood is) =
-          let e : Caches m next' ≡ Caches n next = sym is ∙ h in
-          let a : m ≡ n = cc in
-          let b : next' ≡ next = cc in
-          rw (← a, ← b) (small, stood)
-      go (FirstReading.broken f place off is) = differ cc
+      go : FirstReading s (first_of s) → Small c.count × Stands s 0 (first_text c.count) c.next
+      go (FirstReading.caches d small stood is) =
+          let same : d ≡ c = cc in
+          rw (← same) (small, stood)
+      go (FirstReading.broken w off is) = differ cc
 
-module _ (s : List ℕ) (at : ℕ) (op : Op) (next : ℕ) (h : read_at s at ≡ Step op next) where
-  written : Fits op × Stands s at (step_text op) next
+module _ (s : List ℕ) (at : ℕ) (t : Step) (h : read_at s at ≡ Ok (Some t)) where
+  written : Fits t.op × Stands s at (step_text t.op) t.next
   written = go (step_reading s at)
     where
-      go : StepReading s at (read_at s at) → Fits op × Stands s at (step_text op) next
+      go : StepReading s at (read_at s at) → Fits t.op × Stands s at (step_text t.op) t.next
       go (StepReading.ended past is) = differ cc
-      go (StepReading.step o next' fits stood is) =
-          let e : Step o next' ≡ Step op next = sym is ∙ h in
-          let a : o ≡ op = cc in
-          let b : next' ≡ next = cc in
-          rw (← a, ← b) (fits, stood)
-      go (StepReading.broken f place inside off is) = differ cc
+      go (StepReading.step u fits stood is) =
+          let same : u ≡ t = cc in
+          rw (← same) (fits, stood)
+      go (StepReading.broken w inside off is) = differ cc
 
   -- a step is read only where its line stands as it is written
-  pub only_written : drop at s ≡ step_text op ++ drop next s
+  pub only_written : drop at s ≡ step_text t.op ++ drop t.next s
   only_written = written.1.holds
 
   -- the next place is the one after that line
-  pub only_after : next ≡ at + length (step_text op)
+  pub only_after : t.next ≡ at + length (step_text t.op)
   only_after = written.1.after
 
   -- and its numbers fit
-  pub only_fits : Fits op
+  pub only_fits : Fits t.op
   only_fits = written.0

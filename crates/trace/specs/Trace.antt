@@ -1,21 +1,17 @@
 -- The first line, `caches=N`, and a step's line, `op=load cache=0 vid=2 at=5 data=0`, "each line ended by one LF".
 -- Assumes nothing.
-use Rattle.std.specs.Prelude.{Bool, true, false, cond, List, [], ◌∷◌, ◌++◌, ℕ, ◌+◌, ◌-◌, leb, eqb, length, drop, get_or}
-use Rattle.rules.specs.declared.Fault.{Fault}
-use Rattle.rules.specs.declared.Fault.TheVariants.{NoLineEnd}
+use Rattle.std.specs.Prelude.{Bool, true, false, cond, List, [], ◌∷◌, ◌++◌, ℕ, ◌+◌, ◌-◌, leb, eqb, length, drop, get_or, Option, Some, None, Result, Ok, Err}
 use Rattle.rules.specs.declared.Op.{Op}
 use Rattle.rules.specs.declared.Op.TheVariants.{Load, Store, Commit, Abort, Reset, Evict}
 use Rattle.rules.specs.Text.{data_key}
-use Rattle.trace.specs.declared.numbers.Parsed.{Parsed}
-use Rattle.trace.specs.declared.numbers.Parsed.TheVariants.{Number, Wrong}
-use Rattle.trace.specs.declared.First.{First}
-use Rattle.trace.specs.declared.First.TheVariants.{Caches, Broken}
-use Rattle.trace.specs.declared.Read.{Read}
-use Rattle.trace.specs.declared.Read.TheVariants.{Step, Unreadable, End}
+use Rattle.trace.specs.declared.Broken.{Broken}
+use Rattle.trace.specs.declared.Caches.{Caches}
+use Rattle.trace.specs.declared.Step.{Step}
+use Rattle.trace.specs.declared.numbers.Wrong.{Wrong}
 use Rattle.trace.specs.declared.Kind.{Kind}
 use Rattle.trace.specs.declared.Kind.TheVariants.{AskLoad, AskStore, AskCommit, AskAbort, AskReset, AskEvict}
 use Rattle.trace.specs.declared.Uses.{Uses}
-use Rattle.trace.specs.Numbers.{field_at, starts_lf}
+use Rattle.trace.specs.Numbers.{Parsed, ◌>>=◌, field_at, line_end}
 
 -- ---- keys, in ASCII: `caches=`, ` cache=`, ` vid=`, ` at=`
 
@@ -65,45 +61,51 @@ fields_of k =
     ∷ record { key = data_key; used = (uses_of k).word }
     ∷ []
 
--- the numbers of a line and the place after its LF; or what is wrong with it, and at which place
-pub data Line : Type 0 where
-  numbers : List ℕ → ℕ → Line
-  wrong : Fault → ℕ → Line
+-- the numbers of a line and the place after its LF
+pub record Numbers : Type 0 where
+  pub values : List ℕ
+  pub next : ℕ
 
--- a number in front of those
-abbrev pub before : ℕ → Line → Line
-before n (numbers ns next) = numbers (n ∷ ns) next
-before n (wrong f place) = wrong f place
+abbrev pub numbers : List ℕ → ℕ → Parsed Numbers
+numbers ns next = Ok (record { values = ns; next = next })
 
-abbrev pub on_number : Parsed → (ℕ → ℕ → Line) → Line
-on_number (Number n next) then = then n next
-on_number (Wrong f place) then = wrong f place
-
--- "keys in this order, one space between"
-unfoldable pub line_at : List Field → List ℕ → ℕ → Line
-line_at [] s at = cond (starts_lf (drop at s)) (numbers [] (at + 1)) (wrong NoLineEnd at)
-line_at (f ∷ fs) s at = on_number (field_at f.key f.used s at) (λ n next. before n (line_at fs s next))
+-- "keys in this order, one space between": the numbers, or what is wrong with the line, and at which place
+unfoldable pub line_at : List Field → List ℕ → ℕ → Parsed Numbers
+line_at [] s at = do
+  next ← line_end s at
+  numbers [] next
+line_at (f ∷ fs) s at = do
+  n ← field_at f.key f.used s at
+  rest ← line_at fs s n.next
+  numbers (n.value ∷ rest.values) rest.next
 
 -- "the byte column, from 1", within the line that begins at a place
 abbrev pub column : ℕ → ℕ → ℕ
 column at place = place - at + 1
+
+-- so it is told where something is wrong
+abbrev pub broken_at : ℕ → Wrong → Broken
+broken_at at w = record { fault = w.fault; column = column at w.place }
+
+abbrev pub in_line : {A : Type 0} → ℕ → Parsed A → Result A Broken
+in_line at (Ok a) = Ok a
+in_line at (Err w) = Err (broken_at at w)
 
 -- ---- the first line
 
 abbrev pub first_fields : List Field
 first_fields = record { key = caches_key; used = true } ∷ []
 
-abbrev pub first_by : Line → First
-first_by (numbers ns next) = Caches (get_or ns 0 0) next
-first_by (wrong f place) = Broken f (column 0 place)
+abbrev pub caches_of : Numbers → Caches
+caches_of r = record { count = get_or r.values 0 0; next = r.next }
 
--- the same by the part that was read last, for the code: it breaks there, or behind its number
-abbrev pub broken_by : Parsed → First
-broken_by (Number n next) = Broken NoLineEnd (column 0 next)
-broken_by (Wrong f place) = Broken f (column 0 place)
+unfoldable pub first_at : List ℕ → Parsed Caches
+first_at s = do
+  r ← line_at first_fields s 0
+  Ok (caches_of r)
 
-unfoldable pub first_of : List ℕ → First
-first_of s = first_by (line_at first_fields s 0)
+unfoldable pub first_of : List ℕ → Result Caches Broken
+first_of s = in_line 0 (first_at s)
 
 -- ---- a step's line
 
@@ -119,7 +121,7 @@ kind_by (b ∷ s) =
 
 -- the letter stands behind `op=`
 unfoldable pub kind_at : List ℕ → ℕ → Kind
-kind_at s at = kind_by (drop (at + 3) s)
+kind_at s at = kind_by (drop 3 (drop at s))
 
 -- "For evict, `at` is the slot"
 abbrev pub op_of : Kind → ℕ → ℕ → ℕ → ℕ → Op
@@ -130,16 +132,17 @@ op_of AskAbort c v x d = Abort
 op_of AskReset c v x d = Reset
 op_of AskEvict c v x d = Evict c x
 
--- the step and the place after its LF; or what is wrong with the line, and the column
-abbrev pub step_by : Kind → ℕ → Line → Read
-step_by k at (numbers ns next) = Step (op_of k (get_or ns 0 0) (get_or ns 1 0) (get_or ns 2 0) (get_or ns 3 0)) next
-step_by k at (wrong f place) = Unreadable f (column at place)
+abbrev pub step_of : Kind → Numbers → Step
+step_of k r = record { op = op_of k (get_or r.values 0 0) (get_or r.values 1 0) (get_or r.values 2 0) (get_or r.values 3 0); next = r.next }
 
--- the same by the part that was read last, for the code
-abbrev pub unread_by : ℕ → Parsed → Read
-unread_by at (Number n next) = Unreadable NoLineEnd (column at next)
-unread_by at (Wrong f place) = Unreadable f (column at place)
+-- the line of an op, as a step
+unfoldable pub line_of : Kind → List ℕ → ℕ → Parsed Step
+line_of k s at = do
+  r ← line_at (fields_of k) s at
+  Ok (step_of k r)
 
--- "one step a line"
-unfoldable pub read_at : List ℕ → ℕ → Read
-read_at s at = cond (leb (length s) at) End (step_by (kind_at s at) at (line_at (fields_of (kind_at s at)) s at))
+-- "one step a line": the step and the place after its line, none where the text ends there, or what is wrong with the line, and the column
+unfoldable pub read_at : List ℕ → ℕ → Result (Option Step) Broken
+read_at s at = cond (leb (length s) at) (Ok None) (do
+  t ← in_line at (line_of (kind_at s at) s at)
+  Ok (Some t))

@@ -6,5 +6,5 @@ use Rattle.moves.specs.Change.{changed}
 use Rattle.moves.proofs.Loops.{map_first}
 use Rattle.moves.proofs.change_in.Given as goal
 
-abbrev pub invariant-loop-s : goal.invariant-loop-s
-invariant-loop-s l = l.next.lines ≡ map_first (λ s k. changed l.ch (pos l.c s) k) l.s l.initial.next.lines
+abbrev pub invariant-loop-slot : goal.invariant-loop-slot
+invariant-loop-slot l = l.line-items ≡ map_first (λ s k. changed l.ch (pos l.number s) k) l.slot l.initial.line-items

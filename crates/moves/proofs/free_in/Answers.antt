@@ -1,22 +1,15 @@
+-- The search is the definition's.
 -- Assumes nothing.
-use Rattle.std.proofs.Common.{ℕ, Bool, not, sym, ap, ◌∙◌, arith}
+use Rattle.std.proofs.Common.{rules, tests, ◌∙◌, not}
+use Rattle.std.proofs.lemmas.Iterator.{YieldsList-from_slice}
+use Rattle.std.proofs.lemmas.Iterator.Search.{position_from_yields_List}
 use Rattle.rules.specs.declared.Line.{Line}
-use Rattle.rules.specs.Line.{empty, live}
-use Rattle.rules.proofs.Shape.{lines_16}
-use Rattle.moves.proofs.Loops.{first_here, first_full}
+use Rattle.rules.specs.Line.{live}
+use Rattle.moves.proofs.Search.{position_is}
 use Rattle.moves.proofs.free_in.Goals as goal
-
--- the test of the line in a slot
-abbrev free : ℕ → ℕ → Line → Bool
-free lcvid s l = not (live lcvid l)
-
-pub returns-then-not-is_live : goal.returns-then-not-is_live
-returns-then-not-is_live c =
-    let k = c.args.k in
-    let e = ap not (sym c.is_live.ensures ∙ c.if-not-is_live.true) in
-    sym (first_here (free c.args.lcvid) k.lines empty c.loop-s.s c.loop-s.invariant (omega (arith, lines_16 k _ c.well_formed.0)) e)
 
 pub returns : goal.returns
 returns c =
-    let k = c.args.k in
-    sym (first_full (free c.args.lcvid) k.lines empty c.loop-s.s c.loop-s.invariant (omega (arith, lines_16 k _ c.well_formed.0)))
+    let free = λ (l : Line). not (live c.args.lcvid l) in
+    let lines = c.args.cache.now.lines in
+    position_from_yields_List free _ _ _ c.position.ensures.ran (YieldsList-from_slice lines cc) (λ x b q k. search (rules, tests)) ∙ position_is free lines

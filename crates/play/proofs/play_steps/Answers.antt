@@ -1,37 +1,36 @@
--- A turn by what stands at the place: a step, whose line fits or doesn't, a line that is unreadable, or the end.
+-- A turn by what the reader gives: a step, whose line fits or doesn't, a line that is unreadable, or nothing more.
 -- Assumes nothing.
-use Rattle.std.proofs.Common.{sym, arith}
-use Rattle.trace.proofs.Lengths.{step_column}
+use Rattle.std.proofs.Common.{◌∙◌, ap}
 use Rattle.play.proofs.Telling.{telling_end, telling_refused, telling_wrote, telling_last}
-use Rattle.play.proofs.Turns.{stepped, stepped_sound, no_turn, turn_ends, turn_breaks, turn_steps}
+use Rattle.play.proofs.Turns.{stepped, stepped_sound, gives_step, gives_broken, gives_none}
 use Rattle.play.proofs.play_steps.Goals as goal
 
 pub returns-in_default : goal.returns-in_default
 returns-in_default c =
-    let steps = turn_steps _ _ _ _ _ c.loop-left-test.true (sym c.in-Step.ensures) (stepped c.loop-left.invariant.sound _ c.rule-did.ensures) in
-    telling_refused c.loop-left.invariant.told steps (rw c.wide-lcvid.ensures at c.in_default.ensures)
+    let i = c.loop-played.invariant in
+    let s = c.in-Some.ensures.steps in
+    let t = gives_step _ _ _ i.same i.few s.0 c.in-Ok.is (stepped i.sound _ c.rule-did.ensures) in
+    telling_refused i.told t.0 (rw (c.from-lcvid.ensures, s.1) at c.in_default.ensures)
 
-pub loop-left-preserved : goal.loop-left-preserved
-loop-left-preserved c =
-    let i = c.loop-left.invariant in
-    let steps = turn_steps _ _ _ _ _ c.loop-left-test.true (sym c.in-Step.ensures) (stepped i.sound _ c.rule-did.ensures) in
+pub loop-played-preserved : goal.loop-played-preserved
+loop-played-preserved c =
+    let i = c.loop-played.invariant in
+    let s = c.in-Some.ensures.steps in
+    let t = gives_step _ _ _ i.same i.few s.0 c.in-Ok.is (stepped i.sound _ c.rule-did.ensures) in
     record {
-      few = omega arith;
+      same = ap (λ t. t.now) s.0.same_text ∙ i.same;
+      few = rw s.2 t.1;
       sound = stepped_sound i.sound _ c.rule-did.ensures;
-      told = telling_wrote i.told steps (rw c.wide-lcvid.ensures at c.in-Next.ensures);
+      told = rw s.2 (telling_wrote i.told t.0 (rw (c.from-lcvid.ensures, s.1) at c.in-Ok-write_line.ensures));
     }
 
-pub unreadable-requires : goal.unreadable-requires
-unreadable-requires c = omega (arith, step_column _ _ _ _ (sym c.in-Unreadable.ensures))
-
-pub returns-in-Unreadable : goal.returns-in-Unreadable
-returns-in-Unreadable c =
-    telling_last c.loop-left.invariant.told
-    (turn_breaks _ _ _ _ _ c.loop-left-test.true (sym c.in-Unreadable.ensures))
-    (rw c.unreadable.ensures at c.last_line.ensures)
-
-pub returns-in-End : goal.returns-in-End
-returns-in-End c = telling_end c.loop-left.invariant.told (turn_ends _ _ _ _ _ c.loop-left-test.true (sym c.in-End.ensures))
+pub returns-in-Err : goal.returns-in-Err
+returns-in-Err c =
+    let i = c.loop-played.invariant in
+    let s = c.in-Some.ensures.steps in
+    telling_last i.told (gives_broken _ _ _ i.same i.few s.0 c.in-Err.is) (rw (c.into.ensures, s.1) at c.last_line.ensures)
 
 pub returns : goal.returns
-returns c = telling_end c.loop-left.invariant.told (no_turn _ _ _ _ _ c.loop-left-test.false)
+returns c =
+    let i = c.loop-played.invariant in
+    telling_end i.told (gives_none _ _ _ i.same i.few c.in-None.ensures.steps.0)

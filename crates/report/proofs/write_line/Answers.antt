@@ -1,10 +1,16 @@
--- The line is made in the array and copied into the part from the place on, where that has room.
+-- The line is made, and put into the part from the place on, where it fits there.
 -- Assumes nothing.
-use Rattle.std.proofs.Common.{ℕ, arith}
-use lib.ListN.{length-replicate}
-use Rattle.report.proofs.Parts.{copied}
+use Rattle.std.proofs.lemmas.Result.{err_from_is_err_and}
+use Rattle.report.proofs.Written.{refused, placed}
 use Rattle.report.proofs.write_line.Goals as goal
 
-pub returns-then-copy_line : goal.returns-then-copy_line
-returns-then-copy_line c =
-    copied _ _ _ c.if-out-place.false _ _ _ _ _ (omega (arith, length-replicate {A = ℕ} 144 0)) c.make_line-n.ensures (rw c.if-copy_line.true at c.copy_line.ensures)
+pub returns-in_err-length : goal.returns-in_err-length
+returns-in_err-length c =
+    let p = err_from_is_err_and c.from_residual.result c.from_residual.ensures.1 in
+    rw (p.1, p.2, ← c.make_line.ensures, ← c.as_str.ensures.value, ← c.as_bytes.ensures.value)
+    (refused _ _ _ _ _ c.if-out-place.false c.in_err-length.ensures)
+
+pub returns : goal.returns
+returns c =
+    rw (← c.make_line.ensures, ← c.as_str.ensures.value, ← c.as_bytes.ensures.value)
+    (placed _ _ _ _ _ c.if-out-place.false c.in_ok-length.ensures)

@@ -1,5 +1,6 @@
 -- A number's decimal text is read as the number, and no other text is; and where a number breaks off.
 -- Assumes nothing.
+use Rattle.std.proofs.Common.{Ok, Err}
 use mathlib.Core.Path.{◌≡◌, refl, sym, ◌∙◌, ap, subst}
 use mathlib.Core.Bool.{Bool, true, false, true≢false}
 use mathlib.Core.List.{List, [], ◌∷◌, ◌++◌, append_assoc}
@@ -14,9 +15,8 @@ use Rattle.rules.specs.declared.Fault.{Fault}
 use Rattle.rules.specs.declared.Fault.TheVariants.{BadNumber, NumberTooLarge, KeyNotZero, NoLineEnd}
 use Rattle.rules.specs.Text.{digit_text, last_digits, decimal}
 use Rattle.rules.proofs.base.Bools.{both, by_test}
-use Rattle.trace.specs.declared.numbers.Parsed.{Parsed}
-use Rattle.trace.specs.declared.numbers.Parsed.TheVariants.{Number, Wrong}
-use Rattle.trace.specs.Numbers.{is_digit, digits_from, after_zero, number_in}
+use Rattle.trace.specs.declared.numbers.Number.{Number}
+use Rattle.trace.specs.Numbers.{Parsed, found, wrong, is_digit, digits_from, after_zero, number_in}
 use Rattle.trace.specs.Written.{Small, starts_digit}
 use Rattle.trace.proofs.Digits.{digit_least, digit_most}
 
@@ -136,12 +136,12 @@ zero_in : (used : Bool) (i : ℕ) (rest : List ℕ) → number_in used i (decima
 zero_in used i rest = rw (one_digit 19 0 (omega arith))
 
 -- no digit follows
-number_ends : (v i : ℕ) (rest : List ℕ) → starts_digit rest ≡ false → digits_from v i rest ≡ Number v i
+number_ends : (v i : ℕ) (rest : List ℕ) → starts_digit rest ≡ false → digits_from v i rest ≡ found v i
 unfolding digits_from
 number_ends v i [] e = refl
 number_ends v i (b ∷ s) e = rw e
 
-zero_ends : (i : ℕ) (rest : List ℕ) → starts_digit rest ≡ false → after_zero i rest ≡ Number 0 i
+zero_ends : (i : ℕ) (rest : List ℕ) → starts_digit rest ≡ false → after_zero i rest ≡ found 0 i
 zero_ends i [] e = refl
 zero_ends i (b ∷ s) e = rw e
 
@@ -150,7 +150,7 @@ is_used true n fit = refl
 is_used false n fit = absurd (let z = fit.unused refl in omega arith)
 
 -- the decimal text of a number, with no digit behind it
-pub written_in : (used : Bool) (n i : ℕ) (rest : List ℕ) → Fit used n → starts_digit rest ≡ false → number_in used i (decimal n ++ rest) ≡ Number n (i + length (decimal n))
+pub written_in : (used : Bool) (n i : ℕ) (rest : List ℕ) → Fit used n → starts_digit rest ≡ false → number_in used i (decimal n ++ rest) ≡ found n (i + length (decimal n))
 written_in used zero i rest fit e = zero_in used i rest ∙ zero_ends (i + length (decimal 0)) rest e
 written_in used (suc n) i rest fit e =
     rw (is_used used n fit) (many_in (suc n) i rest (omega arith) fit.small ∙ number_ends (suc n) (i + length (decimal (suc n))) rest e)
@@ -167,10 +167,10 @@ NotFirst used f [] = f ≡ NoLineEnd
 NotFirst used f (b ∷ t) = ((is_digit b ≡ false) × (f ≡ BadNumber)) ⊎ ((is_digit b ≡ true) × (used ≡ false) × (b ≡ 48 → ⊥) × (f ≡ KeyNotZero))
 
 -- what reading a number from place i on comes to, where the text t is left
-pub data NumberReading (used : Bool) (i : ℕ) (t : List ℕ) (r : Parsed) : Type 0 where
-  whole : (n : ℕ) (rest : List ℕ) → t ≡ decimal n ++ rest → Fit used n → starts_digit rest ≡ false → r ≡ Number n (i + length (decimal n)) → NumberReading used i t r
-  none : (f : Fault) → NotFirst used f t → r ≡ Wrong f i → NumberReading used i t r
-  broken : (v b : ℕ) (rest : List ℕ) (f : Fault) → t ≡ decimal v ++ (b ∷ rest) → Fit used v → is_digit b ≡ true → TooMany v b f → r ≡ Wrong f (i + length (decimal v)) → NumberReading used i t r
+pub data NumberReading (used : Bool) (i : ℕ) (t : List ℕ) (r : Parsed Number) : Type 0 where
+  whole : (n : ℕ) (rest : List ℕ) → t ≡ decimal n ++ rest → Fit used n → starts_digit rest ≡ false → r ≡ found n (i + length (decimal n)) → NumberReading used i t r
+  none : (f : Fault) → NotFirst used f t → r ≡ wrong f i → NumberReading used i t r
+  broken : (v b : ℕ) (rest : List ℕ) (f : Fault) → t ≡ decimal v ++ (b ∷ rest) → Fit used v → is_digit b ≡ true → TooMany v b f → r ≡ wrong f (i + length (decimal v)) → NumberReading used i t r
 
 pub always : (n : ℕ) → Small n → Fit true n
 always n small = record { small = small; unused = λ e. absurd (true≢false e) }
@@ -237,21 +237,25 @@ first_digit (suc n) c rest more small e =
 
 -- ---- two texts that begin with a number's decimal text
 
+abbrev value_of : Parsed Number → ℕ
+value_of (Ok n) = n.value
+value_of (Err w) = 0
+
 -- what is behind them begins with no digit, so the numbers are the same
 pub same_number : (m n : ℕ) (t u : List ℕ) → Small m → Small n → starts_digit t ≡ false → starts_digit u ≡ false → decimal m ++ t ≡ decimal n ++ u → m ≡ n
 same_number m n t u small-m small_n t-ends u-ends e =
-    let p : Number m (0 + length (decimal m)) ≡ Number n (0 + length (decimal n)) =
+    let p : found m (0 + length (decimal m)) ≡ found n (0 + length (decimal n)) =
     sym (written_in true m 0 t (always m small-m) t-ends) ∙ rw e (written_in true n 0 u (always n small_n) u-ends) in
-    cc
+    ap value_of p
 
 -- the number that no digit follows is one that a digit b behind n goes on to: n is not 0, and with b it fits
 pub digit_goes_on : (m n b : ℕ) (t u : List ℕ) → Small m → Small n → starts_digit t ≡ false → is_digit b ≡ true → decimal m ++ t ≡ decimal n ++ (b ∷ u) → (0 < n) × Small (n * 10 + (b - 48))
 unfolding digits_from
 digit_goes_on m n b t u small-m small_n t-ends digit e = go n small_n (sym (rw (← e) (written_in true m 0 t (always m small-m) t-ends)))
   where
-    go : (n : ℕ) → Small n → Number m (0 + length (decimal m)) ≡ number_in true 0 (decimal n ++ (b ∷ u)) → (0 < n) × Small (n * 10 + (b - 48))
-    go zero small h = differ (let w : Number m (0 + length (decimal m)) ≡ Wrong BadNumber (0 + length (decimal 0)) = h ∙ (zero_in true 0 (b ∷ u) ∙ rw digit) in cc)
+    go : (n : ℕ) → Small n → found m (0 + length (decimal m)) ≡ number_in true 0 (decimal n ++ (b ∷ u)) → (0 < n) × Small (n * 10 + (b - 48))
+    go zero small h = differ (let w : found m (0 + length (decimal m)) ≡ wrong BadNumber (0 + length (decimal 0)) = h ∙ (zero_in true 0 (b ∷ u) ∙ rw digit) in cc)
     go (suc k) small h =
         by_test (ltb (suc k * 10 + (b - 48)) (2 ^ 64))
         (λ g. (omega arith, ltb-true (suc k * 10 + (b - 48)) (2 ^ 64) g))
-        (λ g. differ (let w : Number m (0 + length (decimal m)) ≡ Wrong NumberTooLarge (0 + length (decimal (suc k))) = h ∙ (many_in (suc k) 0 (b ∷ u) (omega arith) small ∙ rw (digit, g)) in cc))
+        (λ g. differ (let w : found m (0 + length (decimal m)) ≡ wrong NumberTooLarge (0 + length (decimal (suc k))) = h ∙ (many_in (suc k) 0 (b ∷ u) (omega arith) small ∙ rw (digit, g)) in cc))

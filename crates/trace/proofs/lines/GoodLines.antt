@@ -10,8 +10,7 @@ use lib.ListN.{length, drop, get_or}
 use lib.Seq.{drop-append_seam}
 use Rattle.rules.specs.Text.{lf, decimal}
 use Rattle.rules.proofs.base.Bools.{left, right}
-use Rattle.trace.specs.declared.numbers.Parsed.TheVariants.{Number}
-use Rattle.trace.specs.Numbers.{is_digit, number_at}
+use Rattle.trace.specs.Numbers.{found, is_digit, number_at, line_end}
 use Rattle.trace.specs.Trace.{Field, numbers, line_at}
 use Rattle.trace.specs.Written.{starts_digit}
 use Rattle.trace.proofs.lines.Stands.{Stands, first_part, second_part, field_whole}
@@ -107,12 +106,12 @@ ends_number fs ns line rest keyed good = rw (begins fs ns line keyed good).is (f
 
 module _ (s : List ℕ) where
   -- a number's decimal text, with no digit behind it
-  pub number_stands : (used : Bool) (at n next : ℕ) → Stands s at (decimal n) next → Fit used n → starts_digit (drop next s) ≡ false → number_at used s at ≡ Number n next
+  pub number_stands : (used : Bool) (at n next : ℕ) → Stands s at (decimal n) next → Fit used n → starts_digit (drop next s) ≡ false → number_at used s at ≡ found n next
   unfolding number_at
   number_stands used at n next h fit ends = rw h.holds (written_in used n at (drop next s) fit ends ∙ rw h.after)
 
   pub line_back : (fs : List Field) (ns line : List ℕ) (at next : ℕ) → Keyed fs → Good fs ns line → Stands s at line next → line_at fs s at ≡ numbers ns next
-  unfolding Good Keyed line_at
+  unfolding Good Keyed line_at line_end
   line_back [] ns line at next keyed good h =
       let starts : drop at s ≡ 10 ∷ drop next s = h.holds ∙ rw good.1 in
       let place : next ≡ at + 1 = h.after ∙ rw good.1 in

@@ -13,10 +13,9 @@ use Rattle.rules.specs.declared.Fault.{Fault}
 use Rattle.rules.specs.declared.Fault.TheVariants.{NoLineEnd}
 use Rattle.rules.specs.Text.{lf, decimal}
 use Rattle.rules.proofs.base.Bools.{by_test}
-use Rattle.trace.specs.declared.numbers.Parsed.{Parsed}
-use Rattle.trace.specs.declared.numbers.Parsed.TheVariants.{Number}
-use Rattle.trace.specs.Numbers.{is_digit, key_fault, number_in, number_at, field_at}
-use Rattle.trace.specs.Trace.{Field, Line, numbers, wrong, line_at}
+use Rattle.trace.specs.declared.numbers.Number.{Number}
+use Rattle.trace.specs.Numbers.{Parsed, found, wrong, is_digit, key_fault, number_in, number_at, field_at, line_end}
+use Rattle.trace.specs.Trace.{Field, Numbers, numbers, line_at}
 use Rattle.trace.specs.Written.{starts_digit}
 use Rattle.trace.proofs.lines.Stands.{Stands, stands, stands_both, behind, NotNext, Parts, by_key, field_whole, field_parts}
 use Rattle.trace.proofs.lines.Decimal.{Fit, NumberReading, number_reading}
@@ -24,7 +23,7 @@ use Rattle.trace.proofs.lines.GoodLines.{Keyed, Good, plain, plain_byte, plain_n
 use Rattle.trace.proofs.lines.Due.{Due, Off, InField, Leads}
 
 -- the line is good; nothing of it is there; or it goes on with what is not due
-pub data LineReading (fs : List Field) (s : List ℕ) (at : ℕ) (l : Line) : Type 0 where
+pub data LineReading (fs : List Field) (s : List ℕ) (at : ℕ) (l : Parsed Numbers) : Type 0 where
   whole : (ns line : List ℕ) (next : ℕ) → Good fs ns line → Stands s at line next → l ≡ numbers ns next → LineReading fs s at l
   none : (f : Fault) → Off (Due.text (first_byte fs)) f (drop at s) → l ≡ wrong f at → LineReading fs s at l
   broken : (p : List ℕ) (q : Due) (f : Fault) (place : ℕ) → 0 < length p → Leads fs p q → Off q f (drop place s) → Stands s at p place → l ≡ wrong f place → LineReading fs s at l
@@ -32,7 +31,7 @@ pub data LineReading (fs : List Field) (s : List ℕ) (at : ℕ) (l : Line) : Ty
 -- ---- the line's end
 
 end_reading : (s : List ℕ) (at : ℕ) (t : List ℕ) → drop at s ≡ t → LineReading [] s at (line_at [] s at)
-unfolding line_at Good
+unfolding line_at line_end Good
 end_reading s at [] h = none NoLineEnd (rw h refl) (rw h)
 end_reading s at (b ∷ t) h =
     by_test (eqb b 10)
@@ -92,7 +91,7 @@ module _ (f : Field) (fs : List Field) (s : List ℕ) (at : ℕ) where
       some_bytes x = omega (arith, some, length-append f.key x)
 
       -- the line goes on behind the number
-      then_reading : (l : Line) → LineReading fs s next l → field_at f.key f.used s at ≡ Number n next → line_at fs s next ≡ l → LineReading (f ∷ fs) s at (line_at (f ∷ fs) s at)
+      then_reading : (l : Parsed Numbers) → LineReading fs s next l → field_at f.key f.used s at ≡ found n next → line_at fs s next ≡ l → LineReading (f ∷ fs) s at (line_at (f ∷ fs) s at)
       unfolding line_at Good Leads
       then_reading l (whole ns line after good stood l-is) e is =
           whole (n ∷ ns) (f.key ++ (decimal n ++ line)) after (record { value = n; values = ns; rest = line; all = refl; fit = fit; text = refl; others = good })
@@ -105,7 +104,7 @@ module _ (f : Field) (fs : List Field) (s : List ℕ) (at : ℕ) where
           broken (f.key ++ (decimal n ++ (b ∷ p))) q fault place (some_bytes (decimal n ++ (b ∷ p))) (InField.further n b p fit refl digit leads) off
           (stands_both s at f.key (decimal n ++ (b ∷ p)) place stands_key (stands_both s mid (decimal n) (b ∷ p) place number stood)) (rw (e, is, l-is))
 
-    field_reading : (r : Parsed) → NumberReading f.used mid (drop mid s) r → field_at f.key f.used s at ≡ r → ((next : ℕ) → LineReading fs s next (line_at fs s next))
+    field_reading : (r : Parsed Number) → NumberReading f.used mid (drop mid s) r → field_at f.key f.used s at ≡ r → ((next : ℕ) → LineReading fs s next (line_at fs s next))
         → LineReading (f ∷ fs) s at (line_at (f ∷ fs) s at)
     unfolding line_at Leads
     field_reading r (NumberReading.whole n rest text fit ends r-is) e deeper =

@@ -10,8 +10,7 @@ use lib.Dec.{eqb}
 use lib.ListN.{length, drop, length-append}
 use lib.Seq.{drop-append_seam, drop-drop}
 use Rattle.rules.proofs.base.Bools.{by_test}
-use Rattle.trace.specs.declared.numbers.Parsed.TheVariants.{Wrong}
-use Rattle.trace.specs.Numbers.{agreeing, key_fault, number_at, field_at}
+use Rattle.trace.specs.Numbers.{wrong, agreeing, key_fault, number_at, field_at}
 
 -- the text stands at the place, and the next place is the one after it
 pub record Stands (s : List ℕ) (at : ℕ) (text : List ℕ) (next : ℕ) : Type 0 where
@@ -61,7 +60,7 @@ pub record Parts (key t : List ℕ) : Type 0 where
 pub agreeing_whole : (key t : List ℕ) → agreeing key (key ++ t) ≡ length key
 unfolding agreeing
 agreeing_whole [] t = refl
-agreeing_whole (k ∷ ks) t = rw (eq-eqb k k refl, agreeing_whole ks t)
+agreeing_whole (k ∷ ks) t = rw (eq-eqb k k refl, agreeing_whole ks t) (omega arith)
 
 further : (k b : ℕ) (ks t : List ℕ) → eqb b k ≡ true → Parts ks t → Parts (k ∷ ks) (b ∷ t)
 unfolding agreeing
@@ -75,7 +74,7 @@ further k b ks t e p =
       in_key = rw (← p.in_key);
       in_text = rw (q, ← p.in_text);
       differs = p.differs;
-      count = rw (e, p.count);
+      count = rw (e, p.count) (omega arith);
     }
 
 -- either the whole key stands at the text's front, or they part
@@ -96,7 +95,7 @@ module _ (key : List ℕ) (used : Bool) (s : List ℕ) (at : ℕ) where
       rw (h.holds, agreeing_whole key (drop next s), eq-eqb (length key) (length key) refl, ← h.after)
 
   -- where they part, that is wrong
-  pub field_parts : (p : Parts key (drop at s)) → field_at key used s at ≡ Wrong (key_fault p.rest) (at + length p.same)
+  pub field_parts : (p : Parts key (drop at s)) → field_at key used s at ≡ wrong (key_fault p.rest) (at + length p.same)
   unfolding field_at
   field_parts p =
       let short : length p.same ≡ length key → ⊥ = λ e. absurd (omega (arith, e, ap length p.in_key, length-append p.same (p.due ∷ p.others))) in

@@ -7,7 +7,7 @@ use native.Mathlib.Omega.{arith}
 use borrow.Author.Tests.{eqb-true, eqb-false, ne_eqb}
 use lib.Dec.{eqb}
 use lib.ListN.{length, take, drop, get_or, length-append}
-use lib.Seq.{take-append_seam}
+use lib.Seq.{take-append_seam, drop-drop}
 use Rattle.rules.specs.declared.Fault.{Fault}
 use Rattle.rules.specs.Text.{decimal}
 use Rattle.rules.proofs.base.Bools.{by_test}
@@ -17,7 +17,7 @@ use Rattle.trace.specs.Columns.{GoodStep, last_number, Starts, Continues}
 use Rattle.trace.proofs.lines.Stands.{Stands}
 use Rattle.trace.proofs.lines.Due.{Due, letter, Accepts, Off, InField, Leads, GoodLine, zeros}
 use Rattle.trace.proofs.lines.Expects.{Expects, leads_expects, expects_starts, letter_plain}
-use Rattle.trace.proofs.lines.WrittenLines.{step_keyed, spelt, step_of, step_written}
+use Rattle.trace.proofs.lines.WrittenLines.{step_keyed, spelt, op_in, step_written}
 use Rattle.trace.proofs.ReadsBack.{OpLine, op_text_lem, op_line, by_letter}
 
 -- ---- the lines of all ops
@@ -25,7 +25,7 @@ use Rattle.trace.proofs.ReadsBack.{OpLine, op_text_lem, op_line, by_letter}
 pub of_kind : (k : Kind) (line : List ℕ) → GoodLine (fields_of k) line → GoodStep line
 of_kind k line g =
     let w = step_written g.values line k g.good in
-    record { op = step_of g.values line k; fits = w.0; written = w.1 }
+    record { op = op_in g.values line k; fits = w.0; written = w.1 }
 
 pub some_kind : (line : List ℕ) → GoodStep line → (k : Kind) × GoodLine (fields_of k) line
 some_kind line g =
@@ -120,7 +120,7 @@ op_off s at f (b ∷ rest) e off = (none, off.1 ∙ rw (ne_eqb (letter (kind_at 
   where
     none : (k : Kind) → b ≡ letter k → ⊥
     none k h =
-        let is : kind_at s at ≡ k = rw (e, h) (by_letter k rest) in
+        let is : kind_at s at ≡ k = rw (drop-drop 3 at s, e, h) (by_letter k rest) in
         off.0 (h ∙ rw is)
 
 -- ---- anywhere

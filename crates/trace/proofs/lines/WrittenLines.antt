@@ -141,10 +141,10 @@ spelt (Evict c t) fits =
 
 -- and the step that a good line is written for
 module _ (ns line : List ℕ) where
-  abbrev pub step_of : Kind → Op
-  step_of k = op_of k (get_or ns 0 0) (get_or ns 1 0) (get_or ns 2 0) (get_or ns 3 0)
+  abbrev pub op_in : Kind → Op
+  op_in k = op_of k (get_or ns 0 0) (get_or ns 1 0) (get_or ns 2 0) (get_or ns 3 0)
 
-  written_as : (k : Kind) → Four k ns line → Fits (step_of k) × (line ≡ step_text (step_of k))
+  written_as : (k : Kind) → Four k ns line → Fits (op_in k) × (line ≡ step_text (op_in k))
   unfolding step_text
   written_as AskLoad f = rw f.all ((f.cache_fits.small, f.vid_fits.small, f.at_fits.small), f.text ∙ rw (f.word_fits.unused refl))
   written_as AskStore f = rw f.all ((f.cache_fits.small, f.vid_fits.small, f.at_fits.small, f.word_fits.small), f.text)
@@ -153,5 +153,5 @@ module _ (ns line : List ℕ) where
   written_as AskReset f = (tt, f.text ∙ rw (f.cache_fits.unused refl, f.vid_fits.unused refl, f.at_fits.unused refl, f.word_fits.unused refl))
   written_as AskEvict f = rw f.all ((f.cache_fits.small, f.at_fits.small), f.text ∙ rw (f.vid_fits.unused refl, f.word_fits.unused refl))
 
-  pub step_written : (k : Kind) → Good (fields_of k) ns line → Fits (step_of k) × (line ≡ step_text (step_of k))
+  pub step_written : (k : Kind) → Good (fields_of k) ns line → Fits (op_in k) × (line ≡ step_text (op_in k))
   step_written k good = written_as k (good_four k ns line good)
