@@ -36,51 +36,47 @@ impl Seen {
         }
     }
 
-    // A line of the address that is looked for: of each kind the first that passes stays.
-    fn with_line(self, access: Access, held: Held) -> Seen
-        ensures { result ≡ with_line access.cache access.a held.line.address held.place held.line self }
+    // A line of the address that is looked for: of each kind the first that passes stays. Few lines come here, and the walk past the others is quicker if
+    // this stands apart.
+    #[inline(never)]
+    fn see(&mut self, access: Access, held: Held)
+        ensures { self.new ≡ with_line access.cache access.a held.line.address held.place held.line self.old }
     {
         let Held { place, line } = held;
         let state = line.state;
         let hit = line.hits(access.a);
         let mine = place.cache == access.cache;
         let plain = state.is_plain();
-        Seen {
-            owner: keep(self.owner, state.can_own() & hit, held),
-            share: keep(self.share, mine & ((state == State::SS) & hit), held),
-            own: keep(self.own, mine & plain, held),
-            plain: keep(self.plain, plain, held),
-            dirty: self.dirty | state.is_dirty(),
-        }
+        keep(&mut self.owner, state.can_own() & hit, held);
+        keep(&mut self.share, mine & ((state == State::SS) & hit), held);
+        keep(&mut self.own, mine & plain, held);
+        keep(&mut self.plain, plain, held);
+        self.dirty |= state.is_dirty();
     }
 }
 
-// The first that passes stays. As a test and not as `or`, which is slower.
-fn keep(first: Option<Held>, passes: bool, held: Held) -> Option<Held>
-    ensures { result ≡ kept first passes held }
+// The first that passes stays.
+fn keep(first: &mut Option<Held>, passes: bool, held: Held)
+    ensures { first.new ≡ kept first.old passes held }
 {
     if passes && first.is_none() {
-        Some(held)
-    } else {
-        first
+        *first = Some(held);
     }
 }
 
 // The lines of the cache with this number.
-fn see_lines(lines: &[Line], number: usize, access: Access, before: Seen) -> Seen
-    ensures { result ≡ with_cache access.cache access.a access.x number (record { lines = lines.now }) before }
+fn see_lines(lines: &[Line], number: usize, access: Access, seen: &mut Seen)
+    ensures { seen.new ≡ with_cache access.cache access.a access.x number (record { lines = lines.now }) seen.old }
 {
-    let mut seen = before;
     for (slot, line) in lines.iter().enumerate() {
         if line.address == access.x {
             let place = Pos {
                 cache: number,
                 slot,
             };
-            seen = seen.with_line(access, Held { place, line: *line });
+            seen.see(access, Held { place, line: *line });
         }
     }
-    seen
 }
 
 // What an access sees of its address.
@@ -90,7 +86,7 @@ pub fn look(machine: &Machine, access: Access) -> Seen
     let caches: &[Cache] = &machine.caches;
     let mut seen = Seen::nothing();
     for (number, cache) in caches.iter().enumerate() {
-        seen = see_lines(&cache.lines, number, access, seen);
+        see_lines(&cache.lines, number, access, &mut seen);
     }
     seen
 }

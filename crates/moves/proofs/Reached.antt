@@ -8,7 +8,7 @@ use Rattle.rules.specs.declared.Pos.{Pos}
 use Rattle.rules.specs.States.{is_ss}
 use Rattle.rules.specs.Line.{is_share}
 use Rattle.rules.specs.Load.{is_of, is_stale_share, demote_line}
-use Rattle.rules.proofs.base.Bools.{second_false}
+use Rattle.std.proofs.lemmas.Bool.{and_right}
 use Rattle.moves.specs.declared.changes.Change.{Change}
 use Rattle.moves.specs.declared.changes.Change.TheVariants.{DropOf, DropShares, DropStale, Demote, Abort, Reset, Stay}
 use Rattle.moves.specs.Change.{changed, reached}
@@ -16,8 +16,8 @@ use Rattle.moves.specs.Change.{changed, reached}
 pub unreached_stays : (ch : Change) (p : Pos) (l : Line) → reached ch l ≡ false → changed ch p l ≡ l
 unfolding is_of is_share is_stale_share demote_line
 unreached_stays (DropOf x) p l e = rw e
-unreached_stays (DropShares x m) p l e = rw (e, second_false (is_ss l.state) refl)
-unreached_stays (DropStale c x m) p l e = rw (e, second_false (is_ss l.state) refl, second_false (eqb p.cache c) refl)
+unreached_stays (DropShares x m) p l e = rw (e, and_right (is_ss l.state) _ refl)
+unreached_stays (DropStale c x m) p l e = rw (e, and_right (is_ss l.state) _ refl, and_right (eqb p.cache c) _ refl)
 unreached_stays (Demote x) p l e = rw e
 unreached_stays (Abort lc) p l e = absurd (true≢false e)
 unreached_stays Reset p l e = absurd (true≢false e)

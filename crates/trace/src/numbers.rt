@@ -1,6 +1,6 @@
 // Keys, and decimal numbers behind them.
-ghost use Rattle.std.specs.Prelude.{◌≡◌, ◌-◌, ◌≤◌, ◌<◌, ◌+◌, ◌*◌, ◌^◌, length, drop, SomeIff};
-ghost use Rattle.trace.specs.Numbers.{is_digit, agreeing, key_fault, digits_from, number_in, field_at, line_end};
+ghost use Rattle.std.specs.Prelude.{◌≡◌, ◌-◌, ◌≤◌, ◌<◌, ◌+◌, ◌*◌, ◌^◌, length, SomeIff};
+ghost use Rattle.trace.specs.Numbers.{agreeing, key_fault, digits_from, number_in, field_at, line_end};
 ghost use Rattle.trace.specs.Trace.{broken_at};
 
 use super::Broken;

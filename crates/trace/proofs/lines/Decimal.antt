@@ -14,7 +14,8 @@ use lib.ListN.{length, get_or, length-append}
 use Rattle.rules.specs.declared.Fault.{Fault}
 use Rattle.rules.specs.declared.Fault.TheVariants.{BadNumber, NumberTooLarge, KeyNotZero, NoLineEnd}
 use Rattle.rules.specs.Text.{digit_text, last_digits, decimal}
-use Rattle.rules.proofs.base.Bools.{both, by_test}
+use Rattle.std.specs.Cmp.Derive.{both_true}
+use Rattle.rules.proofs.base.Bools.{by_test}
 use Rattle.trace.specs.declared.numbers.Number.{Number}
 use Rattle.trace.specs.Numbers.{Parsed, found, wrong, is_digit, digits_from, after_zero, number_in}
 use Rattle.trace.specs.Written.{Small, starts_digit}
@@ -87,7 +88,7 @@ digit_alone v b h e =
 -- ---- read from the first digit on
 
 pub digit_is : (d : ℕ) → d < 10 → is_digit (digit_text d) ≡ true
-digit_is d h = both (le-leb 48 (48 + d) (omega arith)) (le-leb (48 + d) 57 (omega arith))
+digit_is d h = both_true (le-leb 48 (48 + d) (omega arith)) (le-leb (48 + d) 57 (omega arith))
 
 -- a digit more
 digit_on : (v i d n : ℕ) (rest : List ℕ) → d < 10 → v * 10 + d ≡ n → Small n → digits_from v i (digit_text d ∷ rest) ≡ digits_from n (i + 1) rest

@@ -11,7 +11,8 @@ use lib.Dec.{eqb}
 use Rattle.rules.specs.declared.Fault.{Fault}
 use Rattle.rules.specs.declared.Fault.TheVariants.{WrongKey}
 use Rattle.rules.specs.Text.{digit_text, last_digits, decimal}
-use Rattle.rules.proofs.base.Bools.{by_test, not_both}
+use Rattle.std.proofs.lemmas.Bool.{both_ways}
+use Rattle.rules.proofs.base.Bools.{by_test}
 use Rattle.trace.specs.declared.Kind.{Kind}
 use Rattle.trace.specs.declared.Kind.TheVariants.{AskLoad, AskStore, AskCommit, AskAbort, AskReset, AskEvict}
 use Rattle.trace.specs.Numbers.{is_digit}
@@ -136,19 +137,19 @@ module _ (Good : List ℕ → Type 0) (p : List ℕ) where
   expects_stops q x f [] off = tt
   expects_stops Due.some_op x f (b ∷ rest) off = λ l. let a = x.needed b l in off.0 a.0 a.1
   expects_stops (Due.text k) x f (b ∷ rest) off = λ l. off.0 (x.needed b l)
-  expects_stops (Due.digit used) x f (b ∷ rest) (inl off) = λ l. not_both (x.needed b l).0 off.0
+  expects_stops (Due.digit used) x f (b ∷ rest) (inl off) = λ l. both_ways _ off.0 (x.needed b l).0
   expects_stops (Due.digit used) x f (b ∷ rest) (inr off) = λ l. off.2 ((x.needed b l).1 off.1)
   expects_stops (Due.behind v k) x f (b ∷ rest) off = λ l. refuse off (x.needed b l)
     where
       refuse : Off (Due.behind v k) f (b ∷ rest) → Accepts (Due.behind v k) b → ⊥
-      refuse (inl off) (inl a) = not_both off.0 (rw a x.sound.0)
+      refuse (inl off) (inl a) = both_ways _ (rw a x.sound.0) off.0
       refuse (inl off) (inr a) = many off.1
         where
           many : TooMany v b f → ⊥
           many (inl m) = let z = m.0 in let s = a.1 in omega arith
           many (inr m) = let z = m.0 in let s = a.2 in omega arith
       refuse (inr off) (inl a) = off.1 a
-      refuse (inr off) (inr a) = not_both a.0 off.0
+      refuse (inr off) (inr a) = both_ways _ off.0 a.0
 
   -- fixed text k is due, and b is no digit behind a number
   wrong_key : (k b : ℕ) (rest : List ℕ) → Continues Good p k → is_digit k ≡ false → (Continues Good p 10 → ⊥) → (is_digit b ≡ true → number p ≡ []) → KindOf Good WrongKey p (b ∷ rest)
@@ -173,8 +174,8 @@ module _ (Good : List ℕ → Type 0) (p : List ℕ) where
   expects_kind (Due.behind v k) x f (b ∷ rest) (inr off) =
       by_test (eqb k 10)
       (λ h. rw (off.2, h) (off.0, x.goes_on 10 (inl (sym (eqb-true k 10 h)))))
-      (λ h. rw (off.2, h) (wrong_key k b rest (x.goes_on k (inl refl)) x.sound.0 (λ l. not_behind h (x.needed 10 l)) (λ d. absurd (not_both d off.0))))
+      (λ h. rw (off.2, h) (wrong_key k b rest (x.goes_on k (inl refl)) x.sound.0 (λ l. not_behind h (x.needed 10 l)) (λ d. absurd (both_ways _ off.0 d))))
     where
       not_behind : eqb k 10 ≡ false → Accepts (Due.behind v k) 10 → ⊥
       not_behind h (inl a) = eqb-false k 10 h (sym a)
-      not_behind h (inr a) = not_both a.0 refl
+      not_behind h (inr a) = both_ways _ refl a.0

@@ -9,7 +9,7 @@ use lib.Dec.{eqb}
 use lib.ListN.{length, drop, get_or}
 use lib.Seq.{drop-append_seam}
 use Rattle.rules.specs.Text.{lf, decimal}
-use Rattle.rules.proofs.base.Bools.{left, right}
+use Rattle.std.proofs.lemmas.Bool.{and_parts}
 use Rattle.trace.specs.Numbers.{found, is_digit, number_at, line_end}
 use Rattle.trace.specs.Trace.{Field, numbers, line_at}
 use Rattle.trace.specs.Written.{starts_digit}
@@ -45,17 +45,17 @@ not_true false e = refl
 module _ (b : ℕ) (s : List ℕ) (h : plain (b ∷ s) ≡ true) where
   pub plain_byte : is_digit b ≡ false
   unfolding plain
-  plain_byte = not_true (is_digit b) (left (not (is_digit b)) (not (eqb b 10) && plain s) h)
+  plain_byte = not_true (is_digit b) ((and_parts (not (is_digit b)) (not (eqb b 10) && plain s) h).0)
 
   rest_plain : (not (eqb b 10) && plain s) ≡ true
   unfolding plain
-  rest_plain = right (not (is_digit b)) (not (eqb b 10) && plain s) h
+  rest_plain = (and_parts (not (is_digit b)) (not (eqb b 10) && plain s) h).1
 
   pub plain_not_lf : eqb b 10 ≡ false
-  plain_not_lf = not_true (eqb b 10) (left (not (eqb b 10)) (plain s) rest_plain)
+  plain_not_lf = not_true (eqb b 10) ((and_parts (not (eqb b 10)) (plain s) rest_plain).0)
 
   pub plain_tail : plain s ≡ true
-  plain_tail = right (not (eqb b 10)) (plain s) rest_plain
+  plain_tail = (and_parts (not (eqb b 10)) (plain s) rest_plain).1
 
 -- ---- lines
 

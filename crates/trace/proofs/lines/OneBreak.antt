@@ -9,7 +9,7 @@ use lib.ListN.{length}
 use Rattle.rules.specs.declared.Fault.{Fault}
 use Rattle.rules.specs.declared.Fault.TheVariants.{WrongKey, BadNumber, NumberTooLarge, KeyNotZero, NoLineEnd}
 use Rattle.rules.specs.Text.{decimal}
-use Rattle.rules.proofs.base.Bools.{not_both}
+use Rattle.std.proofs.lemmas.Bool.{both_ways}
 use Rattle.trace.specs.Numbers.{is_digit}
 use Rattle.trace.specs.Columns.{number, IsTooLarge, Starts, Stops, IsWrongKey, IsBadNumber, IsNotZero, IsBehind, KindOf, Breaks}
 use Rattle.trace.proofs.Digits.{digit_most}
@@ -25,20 +25,20 @@ module _ (Good : List ℕ → Type 0) where
     not_empty c e = let z = ap length (sym c.so_far ∙ e) in omega (arith, z, some_digit c.value)
 
     key_not_bad : IsWrongKey Good p b → IsBadNumber Good p b → ⊥
-    key_not_bad a (inl h) = not_both (h.1 a.due a.goes) a.text
+    key_not_bad a (inl h) = both_ways _ a.text (h.1 a.due a.goes)
     key_not_bad a (inr h) = no_bytes (sym h.1 ∙ a.no_number h.0)
 
     key_not_large : IsWrongKey Good p b → IsTooLarge p b → ⊥
     key_not_large a c = not_empty c (a.no_number c.digit)
 
     key_not_zero : IsWrongKey Good p b → IsNotZero Good p b → ⊥
-    key_not_zero a d = not_both {b = is_digit a.due} (rw (d.only_zero a.due a.goes)) a.text
+    key_not_zero a d = both_ways (is_digit a.due) a.text (rw (d.only_zero a.due a.goes))
 
     key_not_behind : IsWrongKey Good p b → IsBehind Good p b → ⊥
     key_not_behind a e = a.not_last e.1
 
     bad_not_large : IsBadNumber Good p b → IsTooLarge p b → ⊥
-    bad_not_large (inl h) c = not_both c.digit h.0
+    bad_not_large (inl h) c = both_ways _ h.0 c.digit
     bad_not_large (inr h) c =
         let zero : decimal 0 ≡ 48 ∷ [] = one_digit 19 0 (omega arith) in
         let text : decimal c.value ++ [] ≡ decimal 0 ++ [] = ap (λ x. x ++ []) (sym c.so_far ∙ (h.1 ∙ sym zero)) in
@@ -46,21 +46,21 @@ module _ (Good : List ℕ → Type 0) where
         omega (arith, is, c.passes, digit_most b c.digit)
 
     bad_not_zero : IsBadNumber Good p b → IsNotZero Good p b → ⊥
-    bad_not_zero (inl h) d = not_both d.digit h.0
+    bad_not_zero (inl h) d = both_ways _ h.0 d.digit
     bad_not_zero (inr h) d = no_bytes (sym h.1 ∙ d.first)
 
     bad_not_behind : IsBadNumber Good p b → IsBehind Good p b → ⊥
-    bad_not_behind (inl h) e = not_both (h.1 10 e.1) refl
-    bad_not_behind (inr h) e = not_both h.0 e.0
+    bad_not_behind (inl h) e = both_ways _ refl (h.1 10 e.1)
+    bad_not_behind (inr h) e = both_ways _ e.0 h.0
 
     large_not_zero : IsTooLarge p b → IsNotZero Good p b → ⊥
     large_not_zero c d = not_empty c d.first
 
     large_not_behind : IsTooLarge p b → IsBehind Good p b → ⊥
-    large_not_behind c e = not_both c.digit e.0
+    large_not_behind c e = both_ways _ e.0 c.digit
 
     zero_not_behind : IsNotZero Good p b → IsBehind Good p b → ⊥
-    zero_not_behind d e = not_both d.digit e.0
+    zero_not_behind d e = both_ways _ e.0 d.digit
 
 -- no two kinds at once
 pub kinds_exclude : (Good : List ℕ → Type 0) (f g : Fault) (p rest : List ℕ) → KindOf Good f p rest → KindOf Good g p rest → f ≡ g

@@ -7,7 +7,7 @@ use Rattle.access.proofs.Walk.{walk_sees}
 use Rattle.access.proofs.look.look.Goals as goal
 
 pub loop-number-preserved : goal.loop-number-preserved
-loop-number-preserved c = over_turn (with_cache _ _ _) _ no_cache c.loop-number.number _ c.loop-number-test.true c.loop-number.invariant c.see_lines-seen.ensures
+loop-number-preserved c = over_turn (with_cache _ _ _) _ no_cache c.loop-number.number _ c.loop-number-test.true c.loop-number.invariant c.see_lines.ensures
 
 pub returns : goal.returns
 returns c = c.loop-number.invariant ∙ (over_done (with_cache _ _ _) _ c.loop-number.number _ c.loop-number-test.false ∙ walk_sees c.args.machine.now _ _ _)

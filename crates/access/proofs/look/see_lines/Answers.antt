@@ -20,7 +20,7 @@ loop-slot-preserved c =
     let here = c.loop-slot-test.true in
     let so_far = c.loop-slot.invariant in
     elim c.if-line-access.branch [
-      | then-line-access w ↦ over_turn (adds _ _ _ _) _ empty _ _ here so_far (w.seen-is ∙ w.with_line-seen.ensures ∙ own_address _ _ _ _ _ _ w.if-line-access.true)
+      | then-line-access w ↦ over_turn (adds _ _ _ _) _ empty _ _ here so_far (w.seen-is ∙ w.see.ensures ∙ own_address _ _ _ _ _ _ w.if-line-access.true)
       | else-line-access w ↦ over_turn (adds _ _ _ _) _ empty _ _ here so_far (w.seen-is ∙ sym (another_address _ _ _ _ _ _ (ne_eqb _ _ w.if-line-access.false)))
     ]
 

@@ -10,7 +10,7 @@ use Rattle.rules.specs.States.{is_ss}
 use Rattle.rules.specs.Line.{is_owner, is_plain}
 use Rattle.rules.specs.Load.{is_own_share}
 use Rattle.access.specs.Look.{with_line}
-use Rattle.access.proofs.look.Seen.with_line.Goals as goal
+use Rattle.access.proofs.look.Seen.see.Goals as goal
 
 -- the derived test of a state
 ss : (s : State) → sameb the_type s State.SS ≡ is_ss s
