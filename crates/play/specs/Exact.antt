@@ -1,15 +1,9 @@
 -- Document 01's exact trace, and its report: "The report of this trace is exact".
 -- Assumes nothing.
-use Prim.Native.String.{String, [], ◌∷◌, ◌++◌}
-use Prim.Native.Char.{code}
-use Rattle.std.specs.Prelude.{ℕ, ◌≡◌, List, [] as none, ◌∷◌ as ◌then◌}
+use Prim.Native.String.{String, ◌++◌}
+use Rattle.std.specs.Prelude.{◌≡◌, codes}
 use Rattle.play.specs.Play.{report_of}
 use Rattle.play.specs.Buffer.{joined}
-
--- the bytes of a text in ASCII
-unfoldable pub bytes : String → List ℕ
-bytes [] = none
-bytes (c ∷ s) = code c then bytes s
 
 abbrev pub exact_trace : String
 exact_trace =
@@ -40,4 +34,4 @@ exact_report =
 
 -- byte for byte
 unfoldable pub Exact : Type 0
-Exact = joined (report_of (bytes exact_trace)) ≡ bytes exact_report
+Exact = joined (report_of (codes exact_trace)) ≡ codes exact_report

@@ -1,6 +1,6 @@
 -- The first line, `caches=N`, and a step's line, `op=load cache=0 vid=2 at=5 data=0`, "each line ended by one LF".
 -- Assumes nothing.
-use Rattle.std.specs.Prelude.{Bool, true, false, cond, List, [], ◌∷◌, ◌++◌, ℕ, ◌+◌, ◌-◌, leb, eqb, length, drop, get_or, Option, Some, None, Result, Ok, Err}
+use Rattle.std.specs.Prelude.{Bool, true, false, cond, List, [], ◌∷◌, ◌++◌, ℕ, ◌+◌, ◌-◌, leb, eqb, length, drop, get_or, Option, Some, None, Result, Ok, Err, codes}
 use Rattle.rules.specs.declared.Op.{Op}
 use Rattle.rules.specs.declared.Op.TheVariants.{Load, Store, Commit, Abort, Reset, Evict}
 use Rattle.rules.specs.Text.{data_key}
@@ -13,28 +13,28 @@ use Rattle.trace.specs.declared.Kind.TheVariants.{AskLoad, AskStore, AskCommit, 
 use Rattle.trace.specs.declared.Uses.{Uses}
 use Rattle.trace.specs.Numbers.{Parsed, ◌>>=◌, field_at, line_end}
 
--- ---- keys, in ASCII: `caches=`, ` cache=`, ` vid=`, ` at=`
+-- ---- keys, in ASCII
 
 abbrev pub caches_key : List ℕ
-caches_key = 99 ∷ 97 ∷ 99 ∷ 104 ∷ 101 ∷ 115 ∷ 61 ∷ []
+caches_key = codes "caches="
 
 abbrev pub cache_key : List ℕ
-cache_key = 32 ∷ 99 ∷ 97 ∷ 99 ∷ 104 ∷ 101 ∷ 61 ∷ []
+cache_key = codes " cache="
 
 abbrev pub vid_key : List ℕ
-vid_key = 32 ∷ 118 ∷ 105 ∷ 100 ∷ 61 ∷ []
+vid_key = codes " vid="
 
 abbrev pub at_key : List ℕ
-at_key = 32 ∷ 97 ∷ 116 ∷ 61 ∷ []
+at_key = codes " at="
 
--- `op=load`, `op=store`, `op=commit`, `op=abort`, `op=reset`, `op=evict`
+-- the six ops
 abbrev pub op_text : Kind → List ℕ
-op_text AskLoad = 111 ∷ 112 ∷ 61 ∷ 108 ∷ 111 ∷ 97 ∷ 100 ∷ []
-op_text AskStore = 111 ∷ 112 ∷ 61 ∷ 115 ∷ 116 ∷ 111 ∷ 114 ∷ 101 ∷ []
-op_text AskCommit = 111 ∷ 112 ∷ 61 ∷ 99 ∷ 111 ∷ 109 ∷ 109 ∷ 105 ∷ 116 ∷ []
-op_text AskAbort = 111 ∷ 112 ∷ 61 ∷ 97 ∷ 98 ∷ 111 ∷ 114 ∷ 116 ∷ []
-op_text AskReset = 111 ∷ 112 ∷ 61 ∷ 114 ∷ 101 ∷ 115 ∷ 101 ∷ 116 ∷ []
-op_text AskEvict = 111 ∷ 112 ∷ 61 ∷ 101 ∷ 118 ∷ 105 ∷ 99 ∷ 116 ∷ []
+op_text AskLoad = codes "op=load"
+op_text AskStore = codes "op=store"
+op_text AskCommit = codes "op=commit"
+op_text AskAbort = codes "op=abort"
+op_text AskReset = codes "op=reset"
+op_text AskEvict = codes "op=evict"
 
 -- ---- the fields of a line
 
