@@ -22,7 +22,7 @@ pub fn judge(machine: &Machine, cache: usize, vid: u64, at: u64) -> Result<(), R
     if vid >= 64 {
         return Err(Reason::VidTooLarge);
     }
-    if vid != 0 && vid <= machine.lcvid as u64 {
+    if vid != 0 && vid <= u64::from(machine.lcvid) {
         return Err(Reason::VidPast);
     }
     Ok(())

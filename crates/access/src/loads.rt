@@ -113,19 +113,20 @@ impl Asked {
         }
         match self.seen.plain {
             Some(plain) => {
-                self.place_plain(
-                    State::S,
-                    plain.line.word,
-                    Change::Demote { x: self.access.x },
-                )
+                let word = plain.line.word;
+                let change = Change::Demote { x: self.access.x };
+                self.place_plain(Answer::Value(word), State::S, word, change)
             },
-            None => self.place_plain(State::E, self.memory, Change::Stay),
+            None => {
+                let word = self.memory;
+                self.place_plain(Answer::Value(word), State::E, word, Change::Stay)
+            },
         }
     }
 
-    // A plain line with the value is placed, after a change.
-    fn place_plain(&self, state: State, word: u64, change: Change) -> Plan
-        ensures { result ≡ record { answer = Value word; put = None; change = change; places = One (line state self.now.access.x 0 0 word) } }
+    // The asker answers, and places a plain line with the word, after a change.
+    pub fn place_plain(&self, answer: Answer, state: State, word: u64, change: Change) -> Plan
+        ensures { result ≡ record { answer = answer; put = None; change = change; places = One (line state self.now.access.x 0 0 word) } }
     {
         let new = Line {
             state,
@@ -137,7 +138,7 @@ impl Asked {
         Plan {
             change,
             places: Places::One(new),
-            ..Plan::answering(Answer::Value(word))
+            ..Plan::answering(answer)
         }
     }
 }

@@ -91,19 +91,8 @@ impl Asked {
     fn store_plain(&self, word: u64) -> Plan
         ensures { Carries self.now (λ μ. store_m μ self.now.access.cache self.now.access.x word) result }
     {
-        let x = self.access.x;
-        let new = Line {
-            state: State::M,
-            address: x,
-            m: 0,
-            h: 0,
-            word,
-        };
-        Plan {
-            change: Change::DropOf { x },
-            places: Places::One(new),
-            ..Plan::answering(Answer::Done)
-        }
+        let change = Change::DropOf { x: self.access.x };
+        self.place_plain(Answer::Done, State::M, word, change)
     }
 
     // The new version: S-M (a, a).

@@ -36,9 +36,7 @@ pub fn next_frame(buffer: &mut [u8]) -> Option<Frame<'_>> {
     let wanted = Wanted::try_from(next_byte()?).ok()?;
     let length = read_length()?;
     let got = read_part(buffer, length);
-    if !skip(length - got) {
-        return None;
-    }
+    skip(length - got)?;
     Some(Frame {
         wanted,
         text: &buffer[..got],
@@ -78,16 +76,16 @@ fn read_part(buffer: &mut [u8], count: usize) -> usize
     io::read_full(0, buffer)
 }
 
-// Reads that many bytes and throws them away; false where the input ends before.
-fn skip(count: usize) -> bool {
+// Reads that many bytes and throws them away, if the input doesn't end before.
+fn skip(count: usize) -> Option<()> {
     let mut buffer = [0u8; 4096];
     let mut left = count;
     while 0 < left {
         let got = read_part(&mut buffer, left);
         if got == 0 {
-            return false;
+            return None;
         }
         left -= got;
     }
-    true
+    Some(())
 }

@@ -83,10 +83,7 @@ fn first_at(s: &[u8]) -> Result<Caches, Wrong>
 pub fn first_line(s: &[u8]) -> Result<Caches, Broken>
     ensures { result ≡ first_of s.now }
 {
-    match first_at(s) {
-        Ok(caches) => Ok(caches),
-        Err(wrong) => Err(wrong.in_line(0)),
-    }
+    first_at(s).map_err(|wrong| wrong.in_line(0))
 }
 
 // The line that begins at a place, read as of the op whose letter stands in it.
@@ -116,10 +113,8 @@ fn step_at(s: &[u8], at: usize) -> Result<Option<Step>, Broken>
     if s.len() <= at {
         return Ok(None);
     }
-    match step_line(s, at) {
-        Ok(step) => Ok(Some(step)),
-        Err(wrong) => Err(wrong.in_line(at)),
-    }
+    let step = step_line(s, at).map_err(|wrong| wrong.in_line(at))?;
+    Ok(Some(step))
 }
 
 // The step that stands at a place, read through a reader: for a caller that has a plain slice and a place.
