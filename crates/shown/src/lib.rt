@@ -16,19 +16,19 @@ use text::Shown;
 use trace::Caches;
 use trace::reader::Reader;
 
-// The line of a step, and the machine before its LF. Whatever the numbers, a slot takes at most 99 bytes, a word 24 and the report's line 144, so there is room for all.
-fn step_text(n: u64, did: &Answered) -> Option<ArrayString<8192>> {
+// The line of a step, and the machine before its LF, in place of what the text was: each step writes to the same text, since one that is handed back is copied.
+// Whatever the numbers, a slot takes at most 99 bytes, a word 24 and the report's line 144, so there is room for all.
+fn write_step(text: &mut ArrayString<8192>, n: u64, did: &Answered) -> Option<()> {
     let mut buffer = [0u8; 144];
     let lcvid = u64::from(did.machine.lcvid);
     let end = report::write_line(&mut buffer, 0, n, did.answer, lcvid).ok()?;
     let line = str::from_utf8(&buffer[..end]).ok()?;
-    let mut text = ArrayString::new();
-    writeln!(text, "{}{}", line.trim_end(), Shown(&did.machine)).ok()?;
-    Some(text)
+    text.clear();
+    writeln!(text, "{}{}", line.trim_end(), Shown(&did.machine)).ok()
 }
 
-fn show_step(fd: i32, n: u64, did: &Answered) {
-    if let Some(text) = step_text(n, did) {
+fn show_step(fd: i32, text: &mut ArrayString<8192>, n: u64, did: &Answered) {
+    if write_step(text, n, did).is_some() {
         io::write_all(fd, text.as_str().as_bytes());
     }
 }
@@ -44,6 +44,7 @@ fn show_refused(fd: i32, reason: Reason) {
 // The steps that a reader gives, up to a line that is unreadable.
 fn play_steps(fd: i32, fresh: Answered, steps: Reader<'_>) {
     let mut did = fresh;
+    let mut text = ArrayString::new();
     for (n, read) in (1..=u64::MAX).zip(steps) {
         did = match read {
             Ok(op) => step::rule(did.machine, op),
@@ -52,7 +53,7 @@ fn play_steps(fd: i32, fresh: Answered, steps: Reader<'_>) {
                 machine: did.machine,
             },
         };
-        show_step(fd, n, &did);
+        show_step(fd, &mut text, n, &did);
     }
 }
 
