@@ -3,9 +3,13 @@
 use mathlib.Core.Path.{◌≡◌, refl, ap}
 use mathlib.Core.Bool.{Bool, true, false, cond, ◌&&◌}
 use mathlib.Core.List.{List, [], ◌∷◌}
-use Prim.Native.Nat.{ℕ, zero, suc}
-use lib.Dec.{eqb}
+use Prim.Native.Nat.{ℕ, zero, suc, ◌<◌}
+use native.Mathlib.Omega.{arith}
+use lib.Dec.{eqb, ltb}
 use lib.ListN.{get_or, set}
+use lib.Seq.{set_out, set-get_or}
+use borrow.Author.Tests.{ltb-true, ltb-false}
+use Rattle.std.proofs.lemmas.Bool.{and_parts}
 use Rattle.std.specs.Prelude.{Some}
 use Rattle.std.specs.Bool.{then_some}
 use Rattle.rules.specs.declared.Line.{Line}
@@ -21,6 +25,7 @@ use Rattle.rules.specs.Lists.{map_at}
 use Rattle.rules.specs.Machine.{pos, at, no_cache, with_caches, change, drop, put, gives, place}
 use Rattle.rules.specs.Load.{read_by, after_read}
 use Rattle.rules.specs.Store.{misspeculates, version, closed, store_over, store_split, store_owned}
+use Rattle.rules.proofs.Shape.{Shape, no_slot}
 use Rattle.rules.proofs.base.Lists.{get_d_map}
 use Rattle.moves.specs.declared.changes.Change.{Change}
 use Rattle.moves.specs.declared.changes.Change.TheVariants.{DropOf, DropShares, DropStale, Demote, Abort, Reset, Stay}
@@ -56,6 +61,26 @@ pub answering_gives : (μ : Machine) (c : ℕ) (r : Answer) → carried μ c (an
 unfolding carried
 answering_gives μ c r = ap (gives r) (stay_changes μ)
 
+-- ---- a line put
+
+-- a place of the machine, by its test
+pub in_cache_lem : (p : Pos) → (ltb p.cache 4 && ltb p.slot 16) ≡ true → p.cache < 4
+in_cache_lem p e = ltb-true p.cache 4 (and_parts (ltb p.cache 4) (ltb p.slot 16) e).0
+
+pub in_slot : (p : Pos) → (ltb p.cache 4 && ltb p.slot 16) ≡ true → p.slot < 16
+in_slot p e = ltb-true p.slot 16 (and_parts (ltb p.cache 4) (ltb p.slot 16) e).1
+
+-- past the end a line is put nowhere
+pub put_out : (μ : Machine) → Shape μ → (p : Pos) (l : Line) → (ltb p.cache 4 && ltb p.slot 16) ≡ false → put p l μ ≡ μ
+unfolding put
+put_out μ h p l e = go (ltb p.cache 4) refl
+  where
+    go : (b : Bool) → ltb p.cache 4 ≡ b → put p l μ ≡ μ
+    go true t =
+        let s = ltb-false p.slot 16 (rw (← e, t) refl) in
+        rw (set_out _ p.slot _ (no_slot μ h p.cache p.slot (ltb-true p.cache 4 t) s), set-get_or μ.caches p.cache no_cache)
+    go false t = rw (set_out μ.caches p.cache _ (omega (arith, ltb-false p.cache 4 t, h.four)))
+
 -- the owner's line after the read, in its slot
 pub owner_read : (μ : Machine) (vid : Bool) (a : ℕ) (o : Pos) {l : Line} → l ≡ at μ o → putting (then_some vid (held o (read_by a l))) μ ≡ after_read μ vid a o
 unfolding after_read
@@ -71,7 +96,7 @@ module _ {A : Type 0} where
   map_set k (z ∷ l) zero y = refl
   map_set k (z ∷ l) (suc i) y = ap (λ (r : List A). k 0 z ∷ r) (map_set (λ j. k (suc j)) l i y)
 
-change_put : (k : Pos → Line → Line) (p : Pos) (l : Line) (μ : Machine) → change k (put p l μ) ≡ put p (k p l) (change k μ)
+pub change_put : (k : Pos → Line → Line) (p : Pos) (l : Line) (μ : Machine) → change k (put p l μ) ≡ put p (k p l) (change k μ)
 unfolding change put map_at
 change_put k p l μ =
     rw (

@@ -1,6 +1,6 @@
 -- What a store's search for the owner comes to: too late is misspeculation, and else the owner is the one that was found.
 -- Assumes nothing.
-use mathlib.Core.Path.{◌≡◌, refl, subst}
+use mathlib.Core.Path.{◌≡◌, refl, sym, ap, ◌∙◌, subst}
 use mathlib.Core.Bool.{Bool, true, false, cond}
 use Prim.Native.Nat.{ℕ}
 use Rattle.std.specs.Prelude.{Option, Some, None, Result, Ok, Err}
@@ -12,13 +12,14 @@ use Rattle.rules.specs.declared.Answered.{Answered}
 use Rattle.rules.specs.Data.{Data}
 use Rattle.rules.specs.Machine.{at, find, gives}
 use Rattle.rules.specs.Abort.{abort_of}
+use Rattle.rules.specs.Load.{plain_data}
 use Rattle.rules.specs.Store.{misspeculates, store_new, store_m, store_owned, store_by, store_plain_by, store_of}
 use Rattle.access.specs.declared.ask.Asked.{Asked}
 use Rattle.access.specs.declared.stores.Late.{Late}
 use Rattle.access.specs.Look.{owning, held, held_at}
-use Rattle.access.specs.Plan.{Sees}
-use Rattle.access.specs.Search.{searched}
-use Rattle.access.proofs.Found.{owner_seen}
+use Rattle.access.specs.Plan.{Holds, StoreSees, held_word}
+use Rattle.access.specs.Search.{searched, ActsAs}
+use Rattle.access.proofs.Found.{found_stands, plain_data_held}
 
 -- the store goes on from the owner that was seen, which it does not come too late for
 abbrev Search : Type 0
@@ -31,6 +32,10 @@ cleared a (Some o) {h} e = go (misspeculates a o.line) e
     go true e = absurd (cc)
     go false e = cc
 cleared a None e = cc
+
+-- the search of that owner alone goes on from it too
+pub goes_on : (a : ℕ) (g : Option Held) {h : Option Held} → searched a g ≡ Ok h → searched a h ≡ Ok h
+goes_on a g {h} e = rw (cleared a g e) at e
 
 pub on_time : (a : ℕ) (h : Held) {g : Option Held} → searched a (Some h) ≡ Ok g → misspeculates a h.line ≡ false
 on_time a h {g} e = go (misspeculates a h.line) e
@@ -46,43 +51,52 @@ too_late a h {l} e = go (misspeculates a h.line) e
     go true e = refl
     go false e = absurd (cc)
 
-module _ (k : Asked) (μ : Machine) (d : Data) where
+module _ (μ : Machine) (c a x : ℕ) (d : Data) where
   -- by what was found
-  late_found : (vid : Bool) → (vid ≡ false → k.access.a ≡ μ.lcvid) → (g : Option Pos) {l : Late} → searched k.access.a (held_at μ g) ≡ Err l
-      → cond vid (store_by μ k.access.cache k.access.a k.access.x d g) (store_plain_by μ k.access.cache k.access.x d g) ≡ gives Misspec (abort_of μ)
+  late_found : (vid : Bool) → ActsAs μ vid a → (f : Option Pos) {l : Late} → searched a (held_at μ f) ≡ Err l
+      → cond vid (store_by μ c a x d f) (store_plain_by μ c x d f) ≡ gives Misspec (abort_of μ)
   unfolding store_owned
-  late_found true p (Some o) e = rw (too_late k.access.a (held o (at μ o)) e)
-  late_found false p (Some o) e = rw (subst (λ n. misspeculates n (at μ o) ≡ true) (p refl) (too_late k.access.a (held o (at μ o)) e))
+  late_found true p (Some o) e = rw (too_late a (held o (at μ o)) e)
+  late_found false p (Some o) e = rw (subst (λ n. misspeculates n (at μ o) ≡ true) (p refl) (too_late a (held o (at μ o)) e))
   late_found vid p None e = absurd (cc)
 
-  pub misspecs : Sees k μ → {l : Late} → searched k.access.a k.seen.owner ≡ Err l → store_of μ k.access.vid k.access.cache k.access.a k.access.x d ≡ gives Misspec (abort_of μ)
+  pub misspecs : (vid : Bool) {h : Option Held} {l : Late} → Holds μ (owning x a) h → ActsAs μ vid a → searched a h ≡ Err l → store_of μ vid c a x d ≡ gives Misspec (abort_of μ)
   unfolding store_of
-  misspecs f e = late_found k.access.vid f.acts (find (owning k.access.x k.access.a) μ) (rw (owner_seen f) at e)
+  misspecs vid g p e = late_found vid p (find (owning x a) μ) (rw g at e)
 
   -- a plain store that does not come too late
-  plain_found : (g : Option Pos) {h : Option Held} → k.access.a ≡ μ.lcvid → searched k.access.a (held_at μ g) ≡ Ok h → store_plain_by μ k.access.cache k.access.x d g ≡ store_m μ k.access.cache k.access.x d
-  plain_found (Some o) p e = rw (subst (λ n. misspeculates n (at μ o) ≡ false) p (on_time k.access.a (held o (at μ o)) e))
+  plain_found : (f : Option Pos) {h : Option Held} → a ≡ μ.lcvid → searched a (held_at μ f) ≡ Ok h → store_plain_by μ c x d f ≡ store_m μ c x d
+  plain_found (Some o) p e = rw (subst (λ n. misspeculates n (at μ o) ≡ false) p (on_time a (held o (at μ o)) e))
   plain_found None p e = refl
 
-  pub plain_goes_on : Sees k μ → {h : Option Held} → k.access.vid ≡ false → searched k.access.a k.seen.owner ≡ Ok h → store_of μ k.access.vid k.access.cache k.access.a k.access.x d ≡ store_m μ k.access.cache k.access.x d
+  pub plain_goes_on : {h g : Option Held} → Holds μ (owning x a) h → searched a h ≡ Ok g → a ≡ μ.lcvid → store_of μ false c a x d ≡ store_m μ c x d
   unfolding store_of
-  plain_goes_on f v e = rw v (plain_found (find (owning k.access.x k.access.a) μ) (f.acts v) (rw (owner_seen f) at e))
+  plain_goes_on g e p = plain_found (find (owning x a) μ) p (rw g at e)
 
   -- a store with a VID, from an owner and from none
-  abbrev stored_by : Option Held → Answered
-  stored_by (Some h) = store_owned μ k.access.cache k.access.a k.access.x d h.place
-  stored_by None = store_new μ k.access.cache k.access.a k.access.x d
+  abbrev pub stored_by : Option Held → Answered
+  stored_by (Some h) = store_owned μ c a x d h.place
+  stored_by None = store_new μ c a x d
 
-  store_held : Sees k μ → {h : Option Held} → k.access.vid ≡ true → searched k.access.a k.seen.owner ≡ Ok h → store_of μ k.access.vid k.access.cache k.access.a k.access.x d ≡ stored_by h
+  stored_held : (f : Option Pos) → store_by μ c a x d f ≡ stored_by (held_at μ f)
+  stored_held (Some o) = refl
+  stored_held None = refl
+
+  pub store_held : {h : Option Held} → Holds μ (owning x a) h → store_of μ true c a x d ≡ stored_by h
   unfolding store_of
-  store_held f v e = rw (v, ← cleared k.access.a k.seen.owner e, owner_seen f) (go (find (owning k.access.x k.access.a) μ))
-    where
-      go : (g : Option Pos) → store_by μ k.access.cache k.access.a k.access.x d g ≡ stored_by (held_at μ g)
-      go (Some o) = refl
-      go None = refl
+  store_held e = rw e (stored_held (find (owning x a) μ))
 
-  pub store_from : Sees k μ → {h : Held} → k.access.vid ≡ true → searched k.access.a k.seen.owner ≡ Ok (Some h) → store_of μ k.access.vid k.access.cache k.access.a k.access.x d ≡ store_owned μ k.access.cache k.access.a k.access.x d h.place
-  store_from f v e = store_held f v e
+-- ---- by what a store sees
 
-  pub store_first : Sees k μ → k.access.vid ≡ true → searched k.access.a k.seen.owner ≡ Ok None → store_of μ k.access.vid k.access.cache k.access.a k.access.x d ≡ store_new μ k.access.cache k.access.a k.access.x d
-  store_first f v e = store_held f v e
+module _ {k : Asked} {μ : Machine} {o : Option Held} (f : StoreSees k o μ) where
+  pub owner_found : {h : Held} → o ≡ Some h → h.line ≡ at μ h.place
+  owner_found e = found_stands μ (find (owning k.access.x k.access.a) μ) (sym f.owner ∙ e)
+
+  pub old_word : held_word k.seen.plain k.memory ≡ plain_data μ k.access.x
+  old_word = sym (plain_data_held μ k.access.x f.plain f.memory)
+
+  pub store_from : (c : ℕ) (d : Data) {h : Held} → k.access.vid ≡ true → o ≡ Some h → store_of μ k.access.vid c k.access.a k.access.x d ≡ store_owned μ c k.access.a k.access.x d h.place
+  store_from c d v e = rw v (store_held μ c k.access.a k.access.x d f.owner ∙ ap (stored_by μ c k.access.a k.access.x d) e)
+
+  pub store_first : (c : ℕ) (d : Data) → k.access.vid ≡ true → o ≡ None → store_of μ k.access.vid c k.access.a k.access.x d ≡ store_new μ c k.access.a k.access.x d
+  store_first c d v e = rw v (store_held μ c k.access.a k.access.x d f.owner ∙ ap (stored_by μ c k.access.a k.access.x d) e)

@@ -1,21 +1,24 @@
--- A plan carried out, and what makes one right: carried out on a machine of which it was asked, it is the rule.
+-- A plan carried out, and what makes one right: carried out on a machine of which its facts hold, it is the rule.
 -- Assumes nothing.
-use Rattle.std.specs.Prelude.{◌≡◌, false, ℕ, Option, Some, None, Result, Ok, Err}
+use Rattle.std.specs.Prelude.{◌≡◌, Bool, ℕ, Option, Some, None, Result, Ok, Err}
 use Rattle.rules.specs.declared.Held.{Held}
+use Rattle.rules.specs.declared.Line.{Line}
 use Rattle.rules.specs.declared.Machine.{Machine}
+use Rattle.rules.specs.declared.Pos.{Pos}
 use Rattle.rules.specs.declared.Answer.{Answer}
 use Rattle.rules.specs.declared.Answer.TheVariants.{Refused}
 use Rattle.rules.specs.declared.Answered.{Answered}
 use Rattle.rules.specs.declared.Reason.{Reason}
 use Rattle.rules.specs.Data.{Data}
-use Rattle.rules.specs.Machine.{memory_at, change, put, gives, place, place_two}
+use Rattle.rules.specs.Machine.{memory_at, change, put, find, gives, place, place_two}
 use Rattle.moves.specs.declared.changes.Change.TheVariants.{Stay}
 use Rattle.moves.specs.Change.{changed}
 use Rattle.access.specs.declared.ask.Asked.{Asked}
 use Rattle.access.specs.declared.plans.Places.{Places}
 use Rattle.access.specs.declared.plans.Places.TheVariants.{Nothing, One, Two}
 use Rattle.access.specs.declared.plans.Plan.{Plan}
-use Rattle.access.specs.Look.{seen_of}
+use Rattle.access.specs.Look.{owning, any_plain, held_at, seen_of}
+use Rattle.access.specs.Search.{ActsAs}
 
 -- ---- a plan carried out
 
@@ -47,15 +50,29 @@ answering r = record { answer = r; put = None; change = Stay; places = Nothing }
 
 -- ---- a plan that is right
 
--- it was asked of the machine: memory and a look over it told what was seen, and a plain access acts with LCVID
+-- the plan of cache c is the rule on every machine of which the facts hold
+abbrev pub Carries : (Machine → Type 0) → (Machine → Answered) → ℕ → Plan → Type 0
+Carries facts rule c p = (μ : Machine) → facts μ → carried μ c p ≡ rule μ
+
+-- a plan that is right for every cache
+abbrev pub AnyCarries : (ℕ → Machine → Type 0) → (ℕ → Machine → Answered) → Plan → Type 0
+AnyCarries facts rule p = (c : ℕ) → Carries (facts c) (rule c) c p
+
+-- what a load sees: a look over the machine and memory told it
 pub record Sees (k : Asked) (μ : Machine) : Type 0 where
   pub seen : k.seen ≡ seen_of μ k.access.cache k.access.a k.access.x
   pub memory : k.memory ≡ memory_at μ k.access.x
-  pub acts : k.access.vid ≡ false → k.access.a ≡ μ.lcvid
 
--- the plan is the rule on every machine of which it was asked
-abbrev pub Carries : Asked → (Machine → Answered) → Plan → Type 0
-Carries k rule p = (μ : Machine) → Sees k μ → carried μ k.access.cache p ≡ rule μ
+-- the first line of a kind
+abbrev pub Holds : Machine → (Pos → Line → Bool) → Option Held → Type 0
+Holds μ t h = h ≡ held_at μ (find t μ)
+
+-- what a store needs to see: the owner, a plain line of the address and memory; and a plain store acts with LCVID
+pub record StoreSees (k : Asked) (o : Option Held) (μ : Machine) : Type 0 where
+  pub owner : Holds μ (owning k.access.x k.access.a) o
+  pub plain : Holds μ (any_plain k.access.x) k.seen.plain
+  pub memory : k.memory ≡ memory_at μ k.access.x
+  pub acts : ActsAs μ k.access.vid k.access.a
 
 -- the word of what was found, else the other
 abbrev pub held_word : Option Held → Data → Data

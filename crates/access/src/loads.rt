@@ -3,11 +3,11 @@ ghost use Rattle.std.specs.Prelude.{◌≡◌, ◌<◌, Some, None};
 ghost use Rattle.std.specs.Bool.{then_some};
 ghost use Rattle.rules.specs.declared.Answer.TheVariants.{Value};
 ghost use Rattle.rules.specs.Line.{line};
-ghost use Rattle.rules.specs.Machine.{find};
-ghost use Rattle.rules.specs.Load.{read_by, load_of, load_owned, load_new, load_plain};
+ghost use Rattle.rules.specs.Machine.{at, find, memory_at};
+ghost use Rattle.rules.specs.Load.{is_own_share, is_dirty, read_by, plain_data, load_of, load_owned, load_new, load_plain};
 ghost use Rattle.access.specs.declared.plans.Places.TheVariants.{One};
-ghost use Rattle.access.specs.Look.{held, own_plain};
-ghost use Rattle.access.specs.Plan.{Carries};
+ghost use Rattle.access.specs.Look.{own_plain, any_plain, held};
+ghost use Rattle.access.specs.Plan.{Carries, AnyCarries, Sees, Holds, held_word};
 
 use crate::ask::Asked;
 use crate::look::Access;
@@ -17,10 +17,10 @@ use rules::{Answer, Held, Line, State};
 
 impl Asked {
     // The load that was asked for. Where a sound machine has no owner for `a`, no speculative line of the address lives.
-    #[tactic(auto, using(crate::proofs::Found::load_held))]
+    #[tactic(auto, using(crate::proofs::Found::sights))]
     pub fn load_plan(&self) -> Plan
         requires { self.now.access.a < 64 }
-        ensures { Carries self.now (λ μ. load_of μ self.now.access.vid self.now.access.cache self.now.access.a self.now.access.x 0) result }
+        ensures { Carries (Sees self.now) (λ μ. load_of μ self.now.access.vid self.now.access.cache self.now.access.a self.now.access.x 0) self.now.access.cache result }
     {
         match self.seen.owner {
             Some(owner) => self.load_owned(owner),
@@ -32,11 +32,10 @@ impl Asked {
     // ---- speculative lines live, and `owner` is the owner
 
     // The asker holds the owner, or an S-S that hits, or places one: S-S (m, a + 1) with the owner's word.
-    #[tactic(auto, using(crate::proofs::Found::away_held, crate::proofs::Found::owner_stands, crate::proofs::Carried::owner_read, crate::proofs::Carried::answering_gives, crate::proofs::Carried::stay_changes), unfolding(crate::specs::Plan::carried, rules::specs::Load::load_owned, rules::specs::Data::read, rules::specs::Machine::drop))]
+    #[tactic(auto, using(crate::proofs::Found::away_held, crate::proofs::Carried::owner_read, crate::proofs::Carried::answering_gives, crate::proofs::Carried::stay_changes), unfolding(crate::specs::Plan::carried, rules::specs::Load::load_owned, rules::specs::Data::read, rules::specs::Machine::drop))]
     fn load_owned(&self, owner: Held) -> Plan
-        requires number { self.now.access.a < 64 }
-        requires owner { self.now.seen.owner ≡ Some owner }
-        ensures { Carries self.now (λ μ. load_owned μ self.now.access.vid self.now.access.cache self.now.access.a self.now.access.x 0 owner.place) result }
+        requires { self.now.access.a < 64 }
+        ensures { Carries (λ μ. Holds μ (is_own_share self.now.access.cache self.now.access.x self.now.access.a) self.now.seen.share × (owner.line ≡ at μ owner.place)) (λ μ. load_owned μ self.now.access.vid self.now.access.cache self.now.access.a self.now.access.x 0 owner.place) self.now.access.cache result }
     {
         let Access { cache, a, x, .. } = self.access;
         let Held { place, line } = owner;
@@ -78,9 +77,9 @@ impl Asked {
     // ---- no speculative line lives
 
     // The load has a VID: all lines of the address drop, and the asker places S-M (0, a) if one was M or O, else S-E (0, a).
-    #[tactic(auto, using(crate::proofs::Found::plain_word, crate::proofs::Found::dirty_seen), unfolding(crate::specs::Plan::carried, rules::specs::Load::load_new, rules::specs::Data::read, rules::specs::Machine::drop))]
+    #[tactic(auto, unfolding(crate::specs::Plan::carried, rules::specs::Load::load_new, rules::specs::Data::read, rules::specs::Machine::drop))]
     fn load_first(&self) -> Plan
-        ensures { Carries self.now (λ μ. load_new μ self.now.access.cache self.now.access.a self.now.access.x 0) result }
+        ensures { AnyCarries (λ c μ. (self.now.seen.dirty ≡ is_dirty μ self.now.access.x) × (held_word self.now.seen.plain self.now.memory ≡ plain_data μ self.now.access.x)) (λ c μ. load_new μ c self.now.access.a self.now.access.x 0) result }
     {
         let Access { a, x, .. } = self.access;
         let word = self.plain_word();
@@ -106,7 +105,7 @@ impl Asked {
     // Cached elsewhere: M becomes O, E becomes S, and the asker places S. Else it places E from memory.
     #[tactic(auto, using(crate::proofs::Found::plain_held, crate::proofs::Carried::answering_gives, crate::proofs::Carried::stay_changes), unfolding(crate::specs::Plan::carried))]
     fn load_plain(&self) -> Plan
-        ensures { Carries self.now (λ μ. load_plain μ self.now.access.cache self.now.access.x 0 (find (own_plain self.now.access.cache self.now.access.x) μ)) result }
+        ensures { AnyCarries (λ c μ. Holds μ (own_plain c self.now.access.x) self.now.seen.own × (Holds μ (any_plain self.now.access.x) self.now.seen.plain × (self.now.memory ≡ memory_at μ self.now.access.x))) (λ c μ. load_plain μ c self.now.access.x 0 (find (own_plain c self.now.access.x) μ)) result }
     {
         if let Some(own) = self.seen.own {
             return Plan::answering(Answer::Value(own.line.word));

@@ -1,14 +1,15 @@
 // The plan of a store, with a VID or plain.
 //
 // A store first looks for the owner, and misspeculates or goes on. Only a store that goes on places lines, so that misspeculation comes before refusal 11.
-ghost use Rattle.std.specs.Prelude.{◌≡◌, cond, ◌&&◌, eqb, Some, Ok};
+ghost use Rattle.std.specs.Prelude.{◌≡◌, false, cond, ◌&&◌, eqb, Ok};
 ghost use Rattle.rules.specs.declared.Answer.TheVariants.{Misspec};
 ghost use Rattle.rules.specs.States.{is_sm};
 ghost use Rattle.rules.specs.Line.{empty};
-ghost use Rattle.rules.specs.Machine.{gives};
+ghost use Rattle.rules.specs.Machine.{at, gives};
 ghost use Rattle.rules.specs.Abort.{abort_of};
+ghost use Rattle.rules.specs.Load.{plain_data};
 ghost use Rattle.rules.specs.Store.{misspeculates, version, closed, store_new, store_owned, store_m, store_of};
-ghost use Rattle.access.specs.Plan.{Carries};
+ghost use Rattle.access.specs.Plan.{AnyCarries, StoreSees, held_word};
 ghost use Rattle.access.specs.Search.{searched};
 
 use crate::ask::Asked;
@@ -33,10 +34,10 @@ impl Asked {
     }
 
     // The store of `word`, which goes on from `owner`.
-    #[tactic(auto, using(crate::proofs::Searches::plain_goes_on, crate::proofs::Searches::store_from, crate::proofs::Searches::store_first))]
+    #[tactic(auto, using(crate::proofs::Searches::plain_goes_on, crate::proofs::Searches::store_from, crate::proofs::Searches::store_first, crate::proofs::Searches::on_time, crate::proofs::Searches::owner_found, crate::proofs::Searches::old_word))]
     pub fn store_plan(&self, owner: Option<Held>, word: u64) -> Plan
-        requires { searched self.now.access.a self.now.seen.owner ≡ Ok owner }
-        ensures { Carries self.now (λ μ. store_of μ self.now.access.vid self.now.access.cache self.now.access.a self.now.access.x word) result }
+        requires { searched self.now.access.a owner ≡ Ok owner }
+        ensures { AnyCarries (λ c μ. StoreSees self.now owner μ) (λ c μ. store_of μ self.now.access.vid c self.now.access.a self.now.access.x word) result }
     {
         match owner {
             _ if !self.access.vid => self.store_plain(word),
@@ -46,10 +47,10 @@ impl Asked {
     }
 
     // From an owner: it drops or becomes an S-O, the S-S lines with its m drop, and the asker places S-M (a, a).
-    #[tactic(auto, using(crate::proofs::Carried::owner_left, crate::proofs::Found::owner_stands, crate::proofs::Searches::cleared, crate::proofs::Searches::on_time))]
+    #[tactic(auto, using(crate::proofs::Carried::owner_left))]
     fn store_owned(&self, owner: Held, word: u64) -> Plan
-        requires { searched self.now.access.a self.now.seen.owner ≡ Ok (Some owner) }
-        ensures { Carries self.now (λ μ. store_owned μ self.now.access.cache self.now.access.a self.now.access.x word owner.place) result }
+        requires { misspeculates self.now.access.a owner.line ≡ false }
+        ensures { AnyCarries (λ c μ. owner.line ≡ at μ owner.place) (λ c μ. store_owned μ c self.now.access.a self.now.access.x word owner.place) result }
     {
         let Held { place, line } = owner;
         Plan {
@@ -67,9 +68,9 @@ impl Asked {
     }
 
     // No speculative line lives: all lines of the address drop; the asker places S-O (0, a) with the old word, then S-M (a, a).
-    #[tactic(auto, using(crate::proofs::Found::plain_word), unfolding(crate::specs::Plan::carried, rules::specs::Store::store_new, rules::specs::Machine::drop))]
+    #[tactic(auto, unfolding(crate::specs::Plan::carried, rules::specs::Store::store_new, rules::specs::Machine::drop))]
     fn store_new(&self, word: u64) -> Plan
-        ensures { Carries self.now (λ μ. store_new μ self.now.access.cache self.now.access.a self.now.access.x word) result }
+        ensures { AnyCarries (λ c μ. held_word self.now.seen.plain self.now.memory ≡ plain_data μ self.now.access.x) (λ c μ. store_new μ c self.now.access.a self.now.access.x word) result }
     {
         let Access { a, x, .. } = self.access;
         let old = Line {
@@ -89,7 +90,7 @@ impl Asked {
     // A plain store: all lines of the address drop, the asker places M.
     #[tactic(auto, unfolding(crate::specs::Plan::carried, rules::specs::Store::store_m, rules::specs::Machine::drop))]
     fn store_plain(&self, word: u64) -> Plan
-        ensures { Carries self.now (λ μ. store_m μ self.now.access.cache self.now.access.x word) result }
+        ensures { AnyCarries (λ c μ. Unit {0}) (λ c μ. store_m μ c self.now.access.x word) result }
     {
         let change = Change::DropOf { x: self.access.x };
         self.place_plain(Answer::Done, State::M, word, change)
