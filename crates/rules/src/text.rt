@@ -1,4 +1,4 @@
-// A state and an answer as text.
+// A state as text.
 ghost use Rattle.std.specs.Prelude.{Some};
 ghost use Rattle.rules.specs.Text.{state_text};
 
