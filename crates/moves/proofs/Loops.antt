@@ -1,11 +1,12 @@
 -- A loop over a list that changes each element in its place ends with the list changed at every place.
 -- Assumes nothing.
-use mathlib.Core.Path.{◌≡◌, refl, ap}
+use mathlib.Core.Path.{◌≡◌, refl, sym, ◌∙◌, ap}
 use mathlib.Core.List.{List, [], ◌∷◌}
 use Prim.Native.Nat.{ℕ, zero, suc, ◌<◌, ◌≤◌, ◌+◌}
 use native.Mathlib.Nat.{le_of_suc-le-suc, not-suc-le-zero}
 use native.Mathlib.Numerals.{add-one}
 use lib.ListN.{length, get_or, set}
+use lib.Seq.{set-get_or}
 use Rattle.rules.specs.Lists.{map_at}
 
 module _ {A : Type 0} where
@@ -23,6 +24,10 @@ module _ {A : Type 0} where
   -- a turn of the loop
   pub map_turn : (k : ℕ → A → A) (l : List A) (d : A) (i : ℕ) {ys : List A} {y : A} → i < length l → ys ≡ map_first k i l → y ≡ k i (get_or ys i d) → set ys i y ≡ map_first k (i + 1) l
   map_turn k l d i h e f = rw (f, e, add-one i) (one_more k l d i h)
+
+  -- a turn that leaves the element as it is, where the change would too
+  pub map_stays : (k : ℕ → A → A) (l : List A) (d : A) (i : ℕ) {ys : List A} → i < length l → ys ≡ map_first k i l → k i (get_or ys i d) ≡ get_or ys i d → ys ≡ map_first k (i + 1) l
+  map_stays k l d i {ys} h e f = sym (set-get_or ys i d) ∙ map_turn k l d i h e (sym f)
 
   -- its end
   pub map_done : (k : ℕ → A → A) (l : List A) (i : ℕ) → length l ≤ i → map_first k i l ≡ map_at k l

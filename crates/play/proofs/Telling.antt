@@ -1,4 +1,4 @@
--- A report that grows by a line a turn in a lent buffer.
+-- A report that grows by a line a turn in a lent buffer; and the buffer's length, which stays.
 -- Assumes nothing.
 use mathlib.Core.Path.{◌≡◌, refl, sym, ◌∙◌, ap}
 use mathlib.Core.Bool.{Bool, true, false}
@@ -40,6 +40,10 @@ plays_as h e w a = record { place = e ∙ h.place; whole = w ∙ h.whole; holds 
 module _ {lines : List (List ℕ)} {before : List ℕ} {end : ℕ} {out : List ℕ} {rest : List (List ℕ)} (t : Telling lines before end out rest) where
   pub telling_length : length out ≡ length before
   telling_length = ap length t.holds ∙ (length-append t.done (drop end before) ∙ omega (arith, t.place, t.room, length-drop end before))
+
+  -- the same, where what is still to come is told otherwise
+  pub telling_as : {rest' : List (List ℕ)} → rest ≡ rest' → Telling lines before end out rest'
+  telling_as e = rw (← e) t
 
   -- nothing more fits or is to come: the buffer stays as it is
   stays : (b : Bool) → joined (fitting (length before - end) rest) ≡ [] → leb (length (joined rest)) (length before - end) ≡ b
@@ -120,3 +124,20 @@ module _ {lines : List (List ℕ)} {before : List ℕ} {end : ℕ} {out : List �
 -- a report of one line
 pub one_line : {line before : List ℕ} {r : Played} {after : List ℕ} → Ends line 0 before r after → Plays (line ∷ []) before r after
 one_line {line} {before} l = telling_last (telling_none (line ∷ []) before) refl l
+
+-- ---- lengths
+
+-- the lines that fit in a room are no longer than it
+pub fitting_fits : (lines : List (List ℕ)) (room : ℕ) → length (joined (fitting room lines)) ≤ room
+unfolding fitting joined
+fitting_fits [] room = omega arith
+fitting_fits (l ∷ ls) room = by_test (leb (length l) room)
+    (λ i. rw i (omega (arith, leb-true (length l) room i, fitting_fits ls (room - length l), length-append l (joined (fitting (room - length l) ls)))))
+    (λ i. rw i (omega arith))
+
+-- a report changes no length
+pub plays_length : {lines : List (List ℕ)} {before : List ℕ} {r : Played} {after : List ℕ} → Plays lines before r after → length after ≡ length before
+plays_length {lines} {before} {r} p =
+    ap length p.holds
+    ∙ (length-append (joined (fitting (length before) lines)) (drop r.end before)
+    ∙ omega (arith, p.place, length-drop r.end before, fitting_fits lines (length before)))

@@ -10,12 +10,14 @@ use lib.ListN.{length}
 use Rattle.std.specs.Prelude.{Option, Some, None, Result, Ok, Err}
 use Rattle.rules.specs.declared.Machine.{Machine}
 use Rattle.rules.specs.declared.Op.{Op}
+use Rattle.rules.specs.declared.Reason.{Reason}
+use Rattle.rules.specs.declared.Answer.{Answer}
 use Rattle.rules.specs.declared.Answer.TheVariants.{Refused}
 use Rattle.rules.specs.declared.Answered.{Answered}
 use Rattle.rules.specs.House.{House, Sized}
 use Rattle.rules.specs.Step.{rule_of, step_of}
 use Rattle.rules.proofs.Theorems.{step_sound, rule_is_step}
-use Rattle.report.specs.Report.{line_text}
+use Rattle.report.specs.Report.{line_text, Writes}
 use Rattle.trace.specs.declared.Broken.{Broken}
 use Rattle.trace.specs.declared.Step.{Step}
 use Rattle.trace.specs.Trace.{read_at}
@@ -32,6 +34,11 @@ stepped {μ} (h, z) op e = e ∙ sym (rule_is_step μ z h op)
 pub stepped_sound : {μ : Machine} → House μ × Sized μ → (op : Op) {r : Answered} → r ≡ rule_of μ op → House r.machine × Sized r.machine
 stepped_sound {μ} (h, z) op e = rw (stepped (h, z) op e) (step_sound μ z h op)
 
+-- a written line, by what its number and its LCVID come to
+pub reckoned : (n m l k : ℕ) (a : Answer) {end : ℕ} {before after : List ℕ} {r : Result ℕ Reason}
+    → Writes (line_text n a l) end before r after → n ≡ m → l ≡ k → Writes (line_text m a k) end before r after
+reckoned n m l k a w e f = rw (← e, ← f) w
+
 module _ (s : List ℕ) (at n : ℕ) (μ : Machine) (k : ℕ) where
   -- the lines where a step stands, by its answer
   abbrev after : Answered → ℕ → List (List ℕ)
@@ -40,7 +47,12 @@ module _ (s : List ℕ) (at n : ℕ) (μ : Machine) (k : ℕ) where
   abbrev broken : Broken → List ℕ
   broken b = line_text n (Refused (unreadable b)) μ.lcvid
 
-  turn_ends : read_at s at ≡ Ok None → lines_from k s at n μ ≡ []
+  -- no turn is left
+  pub no_turn : k ≤ 0 → lines_from k s at n μ ≡ []
+  no_turn h = let e : k ≡ 0 = omega arith in rw e (unfold lines_from in refl)
+
+  -- nothing more stands there
+  pub turn_ends : read_at s at ≡ Ok None → lines_from k s at n μ ≡ []
   turn_ends e = go k
     where
       go : (k : ℕ) → lines_from k s at n μ ≡ []
@@ -56,10 +68,10 @@ module _ (s : List ℕ) (at n : ℕ) (μ : Machine) (k : ℕ) where
         go zero h = absurd (not-suc-le-zero h)
         go (suc k) h = let e : suc k - 1 ≡ k = omega arith in rw e (unfold lines_from in refl)
 
-    turn_breaks : {b : Broken} → read_at s at ≡ Err b → lines_from k s at n μ ≡ broken b ∷ []
+    pub turn_breaks : {b : Broken} → read_at s at ≡ Err b → lines_from k s at n μ ≡ broken b ∷ []
     turn_breaks e = turn ∙ rw e
 
-    turn_steps : {t : Step} → read_at s at ≡ Ok (Some t) → {r : Answered} → r ≡ step_of μ t.op → lines_from k s at n μ ≡ after r t.next
+    pub turn_steps : {t : Step} → read_at s at ≡ Ok (Some t) → {r : Answered} → r ≡ step_of μ t.op → lines_from k s at n μ ≡ after r t.next
     turn_steps e f = turn ∙ rw (e, f)
 
 -- ---- a turn by what the reader gives, n steps being done

@@ -9,7 +9,8 @@ use Rattle.std.specs.Fmt.{decimal as printed}
 use Rattle.std.proofs.lemmas.Fmt.{AppendsLastDigit, decimal_from_appends, length-decimal-le}
 use Rattle.rules.specs.Text.{last_digits, decimal}
 
-appends : AppendsLastDigit last_digits
+-- a number of one digit is that digit; one of more is what stands before its last digit, and that
+pub appends : AppendsLastDigit last_digits
 unfolding last_digits
 appends = record {
   one = λ k n h. rw (lt-ltb n 10 h);

@@ -1,5 +1,8 @@
--- Laws that the proofs of the functions share: the digits of a number, and what the writer's answer tells; and that the contract leaves one result.
+-- Laws of the line: its digits, the letter and the column that only an unreadable one has, bytes stored one after the other, and what the writer's answer
+-- tells; and that the contract leaves one result.
 -- Assumes nothing.
 pub mod Digits
+pub mod Refusals
+pub mod Sets
 pub mod Written
 pub mod OneLine

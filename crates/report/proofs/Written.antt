@@ -1,9 +1,9 @@
--- What the line writer's answer tells; and a line that doesn't fit in the part of a buffer from a place on.
+-- What the line writer's answer tells; a place past the end; and a line written into the part of a buffer from a place on.
 -- Assumes nothing.
 use mathlib.Core.Path.{◌≡◌, refl, sym, ◌∙◌}
 use mathlib.Core.Bool.{Bool, true, false, cond}
 use mathlib.Core.List.{List, [], append-nil}
-use Prim.Native.Nat.{ℕ, ◌+◌, ◌-◌, ◌≤◌}
+use Prim.Native.Nat.{ℕ, ◌+◌, ◌-◌, ◌≤◌, ◌<◌}
 use native.Mathlib.Omega.{arith}
 use borrow.Author.Tests.{le-leb, lt-leb, leb-true, leb-false}
 use borrow.Rule.Slice.PartMut.{put_mid}
@@ -39,6 +39,12 @@ module _ {line : List ℕ} {place : ℕ} {before after : List ℕ} where
   written {last} l =
       let f = by_place _ _ last (sym l.answer) in
       (f.0, (f.1, l.holds ∙ rw f.0))
+
+-- nothing fits where the place is past the end
+pub past_the_end : (line : List ℕ) (place : ℕ) (out : List ℕ) → length out < place → Writes line place out (Err NoFit) out
+past_the_end line place out h =
+    let f : fits line place out ≡ false = lt-leb (place + length line) (length out) (omega arith) in
+    record { answer = rw f; holds = rw f }
 
 -- where the line doesn't fit in the part, it doesn't in the buffer, of which nothing changes
 pub refused : (line : List ℕ) (place : ℕ) (out ys : List ℕ) (r : Reason) → place ≤ length out

@@ -1,10 +1,11 @@
--- A test of every number below a bound, and of some number below it: what each decides.
+-- A test of every number below a bound, and of some number below it: what each decides, and one number more.
 -- Assumes nothing.
-use mathlib.Core.Path.{◌≡◌, refl}
+use mathlib.Core.Path.{◌≡◌, refl, ◌∙◌}
 use mathlib.Core.Logic.{⊎_elim}
-use mathlib.Core.Bool.{Bool, true, or-true, false≢true}
+use mathlib.Core.Bool.{Bool, true, ◌&&◌, or-true, and_comm, false≢true}
 use Prim.Native.Nat.{ℕ, zero, suc, ◌+◌, ◌≤◌, ◌<◌}
 use native.Mathlib.Nat.{not-suc-le-zero, eq-or-lt_of_le, le_of_suc-le-suc}
+use native.Mathlib.Numerals.{add-one}
 use native.Mathlib.Omega.{arith}
 use Rattle.std.specs.List.{list_all, range_with_len}
 use Rattle.std.specs.Cmp.Derive.{both_true}
@@ -44,6 +45,15 @@ module _ (f : ℕ → Bool) where
 
   pub any_test : (n : ℕ) → Decides (any_below n f) ((i : ℕ) × (i < n) × (f i ≡ true))
   any_test n = record { says = any_says n; when = λ (i, h, p). any_when n i h p }
+
+  -- one number more
+  pub all_none : true ≡ all_below 0 f
+  unfolding all_below
+  all_none = refl
+
+  pub all_more : (i : ℕ) (a t : Bool) → a ≡ all_below i f → t ≡ f i → (t && a) ≡ all_below (i + 1) f
+  unfolding all_below
+  all_more i a t e g = and_comm t a ∙ rw (add-one i, e, g)
 
   -- ---- the same of a range, as `all` asks it
 

@@ -3,7 +3,7 @@
 use mathlib.Core.Path.{◌≡◌, refl, sym}
 use mathlib.Core.Logic.{◌⊎◌, inl, inr}
 use mathlib.Core.Bool.{Bool, true, false, ◌&&◌, not, and-false, or-true, false≢true}
-use Prim.Native.Nat.{ℕ, ◌+◌, ◌*◌, ◌/◌, ◌%◌, ◌<◌}
+use Prim.Native.Nat.{ℕ, ◌+◌, ◌*◌, ◌<◌}
 use native.Mathlib.Omega.{arith}
 use native.Mathlib.Decide.{dec_lt}
 use lib.Dec.{leb, ltb, eqb}
@@ -16,7 +16,7 @@ use Rattle.rules.specs.declared.Machine.{Machine}
 use Rattle.rules.specs.declared.Pos.{Pos}
 use Rattle.rules.specs.Data.{same_data}
 use Rattle.rules.specs.Line.{empty, live}
-use Rattle.rules.specs.Machine.{pos, no_cache, at, any_line, all_lines}
+use Rattle.rules.specs.Machine.{no_cache, at, any_line, all_lines}
 use Rattle.rules.specs.HouseTest.{imp, line_fits, slot_fits, same_pos, pair_fits, pairs_fit, some, needs_met, is_sound}
 use Rattle.rules.proofs.base.Bools.{by_test}
 use Rattle.rules.proofs.base.Tests.{Decides, is_test, as_test}
@@ -24,20 +24,14 @@ use Rattle.rules.proofs.machines.Places.{all_lines_lem, any_line_lem}
 use Rattle.rules.proofs.Shape.{Shape}
 use Rattle.sound.specs.Numbered.{all_below, any_below, pos_of, line_no, slot_no, seen_below, suffices, stands_in, stands_no}
 use Rattle.sound.proofs.Below.{all_test, any_test, range_test}
-
--- slot s of cache c is number 16 c + s
-place_is : (c s : ℕ) → s < 16 → pos_of (16 * c + s) ≡ pos c s
-place_is c s h = λ i. record { cache = cache i; slot = slot i }
-  where
-    cache : (16 * c + s) / 16 ≡ c
-    cache = omega arith
-
-    slot : (16 * c + s) % 16 ≡ s
-    slot = omega arith
+use Rattle.sound.proofs.Slots.{place_is}
 
 -- two tests that decide the same are equal
-same_test : {a b : Bool} {P : Type 0} → Decides a P → Decides b P → a ≡ b
-same_test {a} {b} p q = same_from_decides a b (p.says, p.when) (q.says, q.when)
+pub same_test : {a b : Bool} {P Q : Type 0} → Decides a P → Decides b Q → (P → Q) → (Q → P) → a ≡ b
+same_test {a} {b} p q f g = same_from_decides a b (p.says, p.when) (λ h. g (q.says h), λ h. q.when (f h))
+
+alike : {a b : Bool} {P : Type 0} → Decides a P → Decides b P → a ≡ b
+alike p q = same_test p q (λ h. h) (λ h. h)
 
 fails : {b : Bool} {P : Type 0} → Decides b P → (P → ⊥) → b ≡ false
 fails {b} p n = by_test b (λ h. absurd (n (p.says h))) (λ h. h)
@@ -79,13 +73,13 @@ module _ (μ : Machine) (w : Shape μ) where
   some_numbered : (x : ℕ) (t : Pos → Line → Bool) → some μ x t
       ≡ any_below 64 (λ j. live μ.lcvid (line_no μ j) && (eqb (line_no μ j).address x && t (pos_of j) (line_no μ j)))
   unfolding some
-  some_numbered x t = same_test (any_slot (λ q l. live μ.lcvid l && (eqb l.address x && t q l)) (λ q. unfold live in refl)) (any_test _ 64)
+  some_numbered x t = alike (any_slot (λ q l. live μ.lcvid l && (eqb l.address x && t q l)) (λ q. unfold live in refl)) (any_test _ 64)
 
   pairs_numbered : (p : Pos) (k : Line) → pairs_fit μ p k
       ≡ all_below 64 (λ j. imp (live μ.lcvid (line_no μ j) && (eqb (line_no μ j).address k.address && not (same_pos p (pos_of j)))) (pair_fits p (pos_of j) k (line_no μ j)))
   unfolding pairs_fit
   pairs_numbered p k =
-      same_test (all_slots (λ q l. imp (live μ.lcvid l && (eqb l.address k.address && not (same_pos p q))) (pair_fits p q k l)) (λ q. unfold live in refl)) (all_test _ 64)
+      alike (all_slots (λ q l. imp (live μ.lcvid l && (eqb l.address k.address && not (same_pos p q))) (pair_fits p q k l)) (λ q. unfold live in refl)) (all_test _ 64)
 
   stands_numbered : (i : ℕ) → imp (live μ.lcvid (line_no μ i)) (pairs_fit μ (pos_of i) (line_no μ i) && needs_met μ (pos_of i) (line_no μ i)) ≡ stands_no μ i
   unfolding stands_in suffices seen_below needs_met
@@ -98,6 +92,11 @@ module _ (μ : Machine) (w : Shape μ) where
   stands_test =
       as_test (all_slots (λ p k. imp (live μ.lcvid k) (pairs_fit μ p k && needs_met μ p k)) (λ p. unfold live in refl))
       (λ h i q. rw (← stands_numbered i) (h i q)) (λ h i q. rw (stands_numbered i) (h i q))
+
+  -- all rules, over the 64 slots
+  pub numbered : is_sound μ ≡ (leb 1 μ.count && (leb μ.count 4 && ltb μ.lcvid 64) && (all_below 64 (slot_no μ) && all_below 64 (stands_no μ)))
+  unfolding is_sound
+  numbered = rw (alike slots_test (all_test (slot_no μ) 64), alike stands_test (all_test (stands_no μ) 64))
 
   -- the count or LCVID is wrong
   pub no_numbers : false ≡ (leb 1 μ.count && (leb μ.count 4 && ltb μ.lcvid 64)) → false ≡ is_sound μ
@@ -112,4 +111,4 @@ module _ (μ : Machine) (w : Shape μ) where
   -- each slot fits, and each live line is asked
   pub each : true ≡ (leb 1 μ.count && (leb μ.count 4 && ltb μ.lcvid 64)) → ((i : ℕ) → i < 64 → slot_no μ i ≡ true) → list_all (stands_no μ) (range_with_len 0 64) ≡ is_sound μ
   unfolding is_sound
-  each e f = rw (← e, slots_test.when f, same_test stands_test (range_test (stands_no μ) 64))
+  each e f = rw (← e, slots_test.when f, alike stands_test (range_test (stands_no μ) 64))

@@ -1,18 +1,18 @@
 -- The chains of a machine, one slot more: from the last slot down.
 -- Assumes nothing.
-use Rattle.std.proofs.Common.{◌≡◌, refl, sym, ◌∙◌, true, false, ◌&&◌, ◌||◌, ℕ, suc, ◌≤◌, ◌<◌, ◌≢◌, Option, Some, None, length, get_or, set, replicate, arith, get_or-set_same, get_or-set_other}
-use Rattle.std.proofs.Math.Dec.{eqb, ltb}
+use Rattle.std.proofs.Common.{◌≡◌, refl, sym, ◌∙◌, true, false, ℕ, suc, ◌≤◌, ◌<◌, ◌≢◌, Option, Some, None, length, get_or, set, replicate, arith, get_or-set_same, get_or-set_other}
+use Rattle.std.proofs.Math.Dec.{eqb}
 use Rattle.std.proofs.Math.Decide.{ℕ_discrete}
 use Rattle.std.specs.Cmp.Derive.{both_true}
-use Rattle.std.proofs.lemmas.Bool.{ltb-true, eqb-true, eq-eqb, ne_eqb, and_parts, and_right, both_ways}
+use Rattle.std.proofs.lemmas.Bool.{eqb-true, eq-eqb, ne_eqb, and_parts, and_right, both_ways}
 use Rattle.std.proofs.lemmas.List.{get_or-replicate, length-replicate, length-set}
 use Rattle.rules.specs.declared.Held.{Held}
 use Rattle.rules.specs.declared.Machine.{Machine}
 use Rattle.rules.specs.Line.{live}
-use Rattle.rules.specs.HouseTest.{line_fits, slot_fits}
-use Rattle.rules.specs.States.{is_i}
+use Rattle.rules.specs.HouseTest.{slot_fits}
 use Rattle.sound.specs.declared.Chains.{Chains}
 use Rattle.sound.specs.Numbered.{line_no, held_no, slot_no, holds, NoneIn, IsFirst, Chained}
+use Rattle.sound.proofs.Small.{fits_small}
 
 pub chained_none : (μ : Machine) → Chained μ 64 (record { first = replicate 64 None; next = replicate 64 None })
 chained_none μ = record {
@@ -26,10 +26,7 @@ chained_none μ = record {
 -- ---- where a slot fits, its address is below 64
 
 fits_address : (μ : Machine) (l : Held) → slot_fits μ l.place l.line ≡ true → l.line.address < 64
-unfolding slot_fits
-fits_address μ l f =
-    let (_, fit) = and_parts (ltb l.place.cache μ.count || is_i l.line.state) (ltb l.line.address 64 && line_fits 64 l.line) f in
-    ltb-true l.line.address 64 (and_parts (ltb l.line.address 64) (line_fits 64 l.line) fit).0
+fits_address μ l f = (fits_small μ l.place l.line f).address
 
 pub small : (μ : Machine) (i : ℕ) (chains : Chains) → Chained μ 0 chains → i < 64 → (line_no μ i).address < 64
 small μ i chains g h = fits_address μ (held_no μ i) (g.fits i (omega arith) h)

@@ -14,7 +14,7 @@ use Rattle.sound.specs.declared.seen.Seen.{Seen}
 use Rattle.sound.specs.Numbered.{all_below, any_below, line_no, held_no, holds, seeing, seen_below, suffices, stands_in, NoneIn, IsFirst}
 
 -- what it has seen before it looks
-abbrev nothing : Seen
+abbrev pub nothing : Seen
 nothing = record { fits = true; o = false; top = false; low = false; next = false; owner = false }
 
 -- s is what k has seen before it comes to the next line of its chain
