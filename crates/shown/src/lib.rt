@@ -46,13 +46,10 @@ fn play_steps(fd: i32, fresh: Answered, steps: Reader<'_>) {
     let mut did = fresh;
     let mut text = ArrayString::new();
     for (n, read) in (1..=u64::MAX).zip(steps) {
-        did = match read {
-            Ok(op) => step::rule(did.machine, op),
-            Err(broken) => Answered {
-                answer: Answer::Refused(broken.into()),
-                machine: did.machine,
-            },
-        };
+        match read {
+            Ok(op) => did = step::rule(did.machine, op),
+            Err(broken) => did.answer = Answer::Refused(broken.into()),
+        }
         show_step(fd, &mut text, n, &did);
     }
 }

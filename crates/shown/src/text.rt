@@ -9,7 +9,7 @@ pub struct Shown<'a>(pub &'a Machine);
 impl fmt::Display for Shown<'_> {
     fn fmt<W: fmt::Write>(&self, f: &mut fmt::Formatter<W>) -> fmt::Result {
         write!(f, " |")?;
-        let mut between = " ";
+        let mut first = true;
         for (c, cache) in self.0.caches.iter().enumerate() {
             for (s, line) in cache.lines.iter().enumerate() {
                 let Line {
@@ -20,8 +20,9 @@ impl fmt::Display for Shown<'_> {
                     word,
                 } = line;
                 if *state != State::I {
-                    write!(f, "{between}c{c}s{s}:{state} a{address} m{m} h{h} w{word}")?;
-                    between = "; ";
+                    f.write_str(if first { " c" } else { "; c" })?;
+                    write!(f, "{c}s{s}:{state} a{address} m{m} h{h} w{word}")?;
+                    first = false;
                 }
             }
         }
